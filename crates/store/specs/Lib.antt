@@ -1,0 +1,8 @@
+pub mod Bytes
+pub mod Faults
+pub mod Meaning
+pub mod Calls
+pub mod PlainMeaning
+pub mod BenchMeaning
+pub mod WindowMeaning
+pub mod CheckMeaning
