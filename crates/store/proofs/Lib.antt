@@ -1,5 +1,5 @@
 pub mod Blocks
 pub mod Calls
+pub mod Limits
 pub mod Meanings
 pub mod Views
-pub mod Seals

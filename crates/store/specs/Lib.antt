@@ -4,5 +4,3 @@ pub mod Meaning
 pub mod Calls
 pub mod PlainMeaning
 pub mod BenchMeaning
-pub mod WindowMeaning
-pub mod CheckMeaning

@@ -1,9 +1,7 @@
-//! Stores of numbered blocks: what a store is, two that keep blocks and two layers over any store.
+//! Stores of numbered blocks: what a store is, and two that keep blocks.
 
 pub mod bench;
 mod bytes;
-pub mod check;
 pub mod fault;
 pub mod plain;
 pub mod store;
-pub mod window;

@@ -1,0 +1,37 @@
+//! The command tool: reads commands from standard input, one a line, and prints what came of each.
+
+mod card;
+mod commands;
+mod complaint;
+mod words;
+
+use commands::Tool;
+use complaint::Failure;
+use complaint::FailureFromAllocError;
+use complaint::FailureFromIoError;
+use complaint::explain;
+use std::io;
+use std::io::BufRead;
+use std::io::BufReader;
+use words::split_words;
+
+/// Carries a line out, or says what is wrong with it.
+fn serve(rt: &LibcRuntime, tool: &mut Tool, line: &[u8]) -> io::Result<()> {
+    let words = split_words(rt.alloc(), line)?;
+    match tool.run(rt, words.as_slice()) {
+        Ok(()) => Ok(()),
+        Err(Failure::Line(complaint)) => explain(rt, complaint, words.as_slice()),
+        Err(Failure::Tool(error)) => Err(error),
+    }
+}
+
+fn main(rt: LibcRuntime) -> io::Result<()> {
+    let mut tool = Tool::new();
+    for line in BufReader::new(rt.stdin()).split(rt.alloc(), b'\n') {
+        let line = line?;
+        if line.first() != Some(&b'#') {
+            serve(&rt, &mut tool, line.as_slice())?;
+        }
+    }
+    Ok(())
+}

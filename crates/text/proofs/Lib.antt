@@ -1,0 +1,2 @@
+pub mod DecimalSteps
+pub mod HexSteps

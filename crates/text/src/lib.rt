@@ -1,0 +1,4 @@
+//! Numbers and bytes as text.
+
+pub mod decimal;
+pub mod hex;
