@@ -1,11 +1,13 @@
 //! The command tool: reads commands from standard input, one a line, and prints what came of each.
 
+mod blocks;
 mod card;
-mod commands;
+mod command;
 mod complaint;
+mod making;
+mod tool;
 mod words;
 
-use commands::Tool;
 use complaint::Failure;
 use complaint::FailureFromAllocError;
 use complaint::FailureFromIoError;
@@ -13,6 +15,7 @@ use complaint::explain;
 use std::io;
 use std::io::BufRead;
 use std::io::BufReader;
+use tool::Tool;
 use words::split_words;
 
 /// Carries a line out, or says what is wrong with it.

@@ -1,0 +1,80 @@
+//! The tool: a card, and the commands on it.
+
+use crate::blocks::clear;
+use crate::blocks::dump;
+use crate::blocks::mark;
+use crate::blocks::poke;
+use crate::blocks::save;
+use crate::blocks::write;
+use crate::card::Card;
+use crate::card::CardCalls;
+use crate::command::Command;
+use crate::command::Verb;
+use crate::command::command_of;
+use crate::complaint::Complaint;
+use crate::complaint::Failure;
+use crate::complaint::FailureFromIoError;
+use crate::making::named_card;
+use crate::making::opened_card;
+use store::store::Store;
+
+/// The card that the commands work on, if there is one yet.
+#[derive(Drop)]
+pub struct Tool {
+    card: Option<Card>,
+}
+
+impl Tool {
+    pub fn new() -> Tool {
+        Tool { card: None }
+    }
+
+    /// Carries out the command of these words.
+    pub fn run(&mut self, rt: &LibcRuntime, words: &[&[u8]]) -> Result<(), Failure> {
+        let [name, words @ ..] = words else {
+            return Ok(());
+        };
+        match Verb::named(name) {
+            Some(Verb::Card) => self.take(rt, named_card(rt.alloc(), words)?),
+            Some(Verb::Open) => self.take(rt, opened_card(rt, words)?),
+            Some(verb) => self.perform(rt, verb, words),
+            None => Err(Failure::Line(Complaint::UnknownCommand)),
+        }
+    }
+
+    /// Makes a card the one to work on, and says how large it is.
+    fn take(&mut self, rt: &LibcRuntime, card: Card) -> Result<(), Failure> {
+        let count = card.count();
+        let size = card.size();
+        self.card = Some(card);
+        println!(rt, "card blocks={count} size={size}")?;
+        Ok(())
+    }
+
+    /// Carries out a command on the card.
+    fn perform(&mut self, rt: &LibcRuntime, verb: Verb, words: &[&[u8]]) -> Result<(), Failure> {
+        let Some(command) = command_of(verb, words) else {
+            return Err(Failure::Line(Complaint::UnknownCommand));
+        };
+        match &mut self.card {
+            Some(card) => perform(rt, card, command),
+            None => Err(Failure::Line(Complaint::NoCard)),
+        }
+    }
+}
+
+fn perform(rt: &LibcRuntime, card: &mut Card, command: Command) -> Result<(), Failure> {
+    match command {
+        Command::Save(file) => save(rt, card, file),
+        Command::Mark(block) => mark(rt, card, block),
+        Command::Clear(block) => clear(rt, card, block),
+        Command::Poke(block, at, part) => poke(rt, card, block, at, part),
+        Command::Dump(block) => dump(rt, card, block),
+        Command::Write(block, part) => write(rt, card, block, part),
+        Command::Tally => {
+            let tally = card.tally();
+            println!(rt, "tally {tally}")?;
+            Ok(())
+        }
+    }
+}
