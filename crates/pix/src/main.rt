@@ -12,6 +12,7 @@ use complaint::Failure;
 use complaint::FailureFromAllocError;
 use complaint::FailureFromIoError;
 use complaint::explain;
+use std::error::AnyError;
 use std::io;
 use std::io::BufRead;
 use std::io::BufReader;
@@ -28,13 +29,18 @@ fn serve(rt: &LibcRuntime, tool: &mut Tool, line: &[u8]) -> io::Result<()> {
     }
 }
 
-fn main(rt: LibcRuntime) -> io::Result<()> {
+/// Serves all lines of standard input, one after another.
+fn serve_all(rt: &LibcRuntime) -> Result<(), AnyError> {
     let mut tool = Tool::new();
     for line in BufReader::new(rt.stdin()).split(rt.alloc(), b'\n') {
         let line = line?;
         if line.first() != Some(&b'#') {
-            serve(&rt, &mut tool, line.as_slice())?;
+            serve(rt, &mut tool, line.as_slice())?;
         }
     }
     Ok(())
+}
+
+fn main(rt: LibcRuntime) -> Result<(), AnyError> {
+    rt.report(serve_all(&rt))
 }

@@ -1,0 +1,4 @@
+//! Examples of the stores and layers at work.
+
+#[cfg(test)]
+mod tests;
