@@ -12,7 +12,7 @@ use std::fs;
 use store::fault::Cause;
 use store::fault::Fault;
 use store::store::Store;
-use text::hex::text_of;
+use numerals::hex::text_of;
 
 /// Writes the blocks of the plain store to a file.
 pub fn save(rt: &LibcRuntime, card: &mut Card, file: &[u8]) -> Result<(), Failure> {

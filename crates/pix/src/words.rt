@@ -6,8 +6,8 @@ use crate::complaint::FailureFromAllocError;
 use crate::complaint::FailureFromComplaint;
 use std::alloc::AllocError;
 use std::alloc::Global;
-use text::decimal::number_below;
-use text::hex::bytes_of;
+use numerals::decimal::number_below;
+use numerals::hex::bytes_of;
 
 /// The words of a line, which spaces separate.
 pub fn split_words(heap: Global, line: &[u8]) -> Result<Vec<&[u8]>, AllocError> {

@@ -1,0 +1,14 @@
+use Prim.Native.Nat.{_<_}
+use native.Mathlib.Omega.{arith}
+use Rattle.std.proofs.shelf.Elements.{all-from-getD}
+use Rattle.keys.proofs.Digits.{written-bytes, eight-is, other-length}
+use Rattle.keys.proofs.bytes.eight.Needs as need
+
+pub returns-then-bytes-ne8 : need.returns-then-bytes-ne8
+returns-then-bytes-ne8 c = other-length 8 (c .args .bytes .now) (omega arith)
+
+pub returns : need.returns
+returns c =
+    let bs = c .args .bytes .now in
+    let t = c .typed .bytes in
+    (written-bytes 8 bs (omega arith) (all-from-getD (λ b. b < 256) bs 0 (λ i h. omega (arith, t i))), eight-is bs (omega arith))

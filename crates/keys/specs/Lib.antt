@@ -1,0 +1,12 @@
+pub mod Kind
+pub mod Bytes
+pub mod Lots
+pub mod Moments
+pub mod Padding
+pub mod When
+pub mod Names
+pub mod Rows
+pub mod Dashes
+pub mod LotText
+pub mod MomentText
+pub mod NameText

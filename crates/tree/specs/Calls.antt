@@ -1,0 +1,39 @@
+-- The calls of the index, as plans. n is the store's count of blocks and size their length.
+--
+--   find-plan κ n size k       the record of k, or none
+--   count-plan κ n size        how many keys there are
+--   formatted κ n size m b     what block b holds after a format with the order m
+--   format-plan κ n size m     whether a format with the order m is carried out; it reads nothing
+use mathlib.Core.Bool.{cond}
+use mathlib.Core.List.{List, []}
+use Prim.Native.Nat.{ℕ, zero, suc, _+_, _-_}
+use lib.Dec.{eqb, ltb}
+use Rattle.keys.specs.Kind.{Kind}
+use Rattle.std.specs.declared.option.Option.{Option}
+use Rattle.tree.specs.declared.refusal.Refusal.the-variants.{Unfit}
+use Rattle.tree.specs.Entries.{lookup}
+use Rattle.tree.specs.Heads.{order-fits, write-head}
+use Rattle.tree.specs.Nodes.{write-free, write-node}
+use Rattle.tree.specs.Plans.{Plan}
+use Rattle.tree.specs.Plans.Plan.{done, refuse}
+use Rattle.tree.specs.Walks.{walk, when-fit, with-head, with-path}
+
+module _ {K : Type 0} (κ : Kind K) (n size : ℕ) where
+  abbrev pub find-plan : K → Plan Unit (Option ℕ)
+  find-plan k = when-fit n size tt (with-path κ n size tt k (λ h f. done (lookup κ k (f .node .entries))))
+
+  abbrev pub count-plan : Plan Unit ℕ
+  count-plan = when-fit n size tt (with-head κ n size tt (λ h. done (h .«key_count»)))
+
+  -- the blocks from 2 on are free, in rising order
+  abbrev pub next-free : ℕ → ℕ
+  next-free b = cond (ltb (b + 1) n) (b + 1) 0
+
+  abbrev pub formatted : ℕ → ℕ → List ℕ
+  formatted m b =
+      cond (eqb b 0)
+        (write-head κ size (record { order = m; levels = 1; root = 1; «first_free» = next-free 1; «free_count» = n - 2; «key_count» = 0 }))
+        (cond (eqb b 1) (write-node κ size true (record { link = 0; entries = [] })) (write-free size (next-free b)))
+
+  abbrev pub format-plan : ℕ → Plan Unit Unit
+  format-plan m = when-fit n size tt (cond (order-fits κ size m) (done tt) (refuse tt Unfit))
