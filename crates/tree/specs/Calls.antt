@@ -1,26 +1,35 @@
 -- The calls of the index, as plans. n is the store's count of blocks and size their length.
 --
+--   find-from κ n m k h top b  the record of k, looked for from block b on, h levels above the leaves
 --   find-plan κ n size k       the record of k, or none
 --   count-plan κ n size        how many keys there are
 --   formatted κ n size m b     what block b holds after a format with the order m
 --   format-plan κ n size m     whether a format with the order m is carried out; it reads nothing
-use mathlib.Core.Bool.{cond}
+use mathlib.Core.Bool.{Bool, cond, true}
 use mathlib.Core.List.{List, []}
 use Prim.Native.Nat.{ℕ, zero, suc, _+_, _-_}
 use lib.Dec.{eqb, ltb}
 use Rattle.keys.specs.Kind.{Kind}
 use Rattle.std.specs.declared.option.Option.{Option}
+use Rattle.tree.specs.declared.head.Head.{Head}
 use Rattle.tree.specs.declared.refusal.Refusal.the-variants.{Unfit}
 use Rattle.tree.specs.Entries.{lookup}
 use Rattle.tree.specs.Heads.{order-fits, write-head}
 use Rattle.tree.specs.Nodes.{write-free, write-node}
 use Rattle.tree.specs.Plans.{Plan}
 use Rattle.tree.specs.Plans.Plan.{done, refuse}
-use Rattle.tree.specs.Walks.{walk, when-fit, with-head, with-path}
+use Rattle.tree.specs.Walks.{walk, when-fit, with-head}
+
+module _ {K : Type 0} (κ : Kind K) (n : ℕ) where
+  abbrev pub find-from : ℕ → K → ℕ → Bool → ℕ → Plan Unit (Option ℕ)
+  find-from m k h top b = walk κ n tt m k h top b (λ f. done (lookup κ k (f .node .entries)))
 
 module _ {K : Type 0} (κ : Kind K) (n size : ℕ) where
+  abbrev pub find-below : K → Head → Plan Unit (Option ℕ)
+  find-below k h = find-from κ n (h .order) k (h .levels - 1) true (h .root)
+
   abbrev pub find-plan : K → Plan Unit (Option ℕ)
-  find-plan k = when-fit n size tt (with-path κ n size tt k (λ h f. done (lookup κ k (f .node .entries))))
+  find-plan k = when-fit n size tt (with-head κ n size tt (find-below k))
 
   abbrev pub count-plan : Plan Unit ℕ
   count-plan = when-fit n size tt (with-head κ n size tt (λ h. done (h .«key_count»)))

@@ -6,10 +6,9 @@
 --   with-head κ n size p go       read the head, and go on with it
 --   with-node κ n p m leaf? low b go      read block b as a node, and go on with it
 --   walk κ n p m k h top b go     go from block b, h levels above the leaves, to the leaf of k, and go on with what was found
---   with-path κ n size p k go     the head and the way to the leaf of k, and go on with both
 use mathlib.Core.Bool.{Bool, true, false, cond, _&&_}
 use mathlib.Core.List.{List, [], _∷_}
-use Prim.Native.Nat.{ℕ, zero, suc, _-_}
+use Prim.Native.Nat.{ℕ, zero, suc}
 use lib.Dec.{leb}
 use Rattle.keys.specs.Kind.{Kind}
 use Rattle.std.specs.declared.result.Result.{Result}
@@ -70,7 +69,3 @@ module _ {K : Type 0} (κ : Kind K) (n : ℕ) where
         let q = part κ k (d .entries) in
         walk p m k h false (last-kid (d .link) (q .low)) (λ f.
           go (record { path = record { block = b; link = d .link; before = q .low; behind = q .high } ∷ f .path; leaf = f .leaf; node = f .node })))
-
-module _ {K : Type 0} (κ : Kind K) (n size : ℕ) where
-  abbrev pub with-path : {P A : Type 0} → P → K → (Head → Found K → Plan P A) → Plan P A
-  with-path p k go = with-head κ n size p (λ h. walk κ n p (h .order) k (h .levels - 1) true (h .root) (go h))

@@ -1,0 +1,168 @@
+-- The steps of a walk, run.
+use mathlib.Core.Bool.{Bool, true, false, cond, _&&_}
+use mathlib.Core.List.{List, [], _∷_}
+use mathlib.Core.Path.{_≡_, refl, sym, _∙_, ap, subst}
+use native.Mathlib.Omega.{arith}
+use Prim.Native.Nat.{ℕ, zero, suc, _+_, _-_, _*_, _/_, _<_, _≤_}
+use lib.Dec.{eqb, leb, ltb}
+use lib.ListN.{length, take, drop, getD}
+use Rattle.std.proofs.shelf.Bits.{mul-le, div-add-mod'}
+use Rattle.std.proofs.shelf.Tests.{leb-true, and-parts}
+use Rattle.std.specs.declared.option.Option.{Option}
+use Rattle.std.specs.declared.option.Option.the-variants.{Some, None}
+use Rattle.std.specs.declared.result.Result.{Result}
+use Rattle.std.specs.declared.result.Result.the-variants.{Ok, Err}
+use Rattle.index.specs.Readings.{Reading, head-answer, node-answer}
+use Rattle.keys.specs.Kind.{Kind, Lawful}
+use Rattle.page.specs.Rows.{kid-at, record-at}
+use Rattle.page.proofs.HeadSeen.{rule-1-kept}
+use Rattle.page.proofs.Seen.{count-fits, kid-is, record-is, seen-right}
+use Rattle.store.specs.declared.fault.Fault.{Fault}
+use Rattle.store.specs.Calls.{refusal, unless}
+use Rattle.store.specs.Meaning.{Meaning, tallied}
+use Rattle.tree.specs.declared.head.Head.{Head}
+use Rattle.tree.specs.declared.refusal.Refusal.{Refusal}
+use Rattle.tree.specs.declared.refusal.Refusal.the-variants.{Broken, Unfit, Unreadable}
+use Rattle.tree.specs.Calls.{find-below, find-from, find-plan}
+use Rattle.tree.specs.Entries.{lookup, part}
+use Rattle.tree.specs.Fields.{u32-at, within}
+use Rattle.tree.specs.Heads.{order-fits, see-head}
+use Rattle.tree.specs.Nodes.{Node, Seen, is-block, least, see-node}
+use Rattle.tree.specs.Nodes.Seen.{wrong, right}
+use Rattle.tree.specs.Plans.{Plan, bare, on-read, run}
+use Rattle.tree.specs.Plans.Plan.{done, look, refuse}
+use Rattle.tree.specs.Walks.{is-fit, last-kid, on-head, on-seen, walk, with-head, with-node}
+
+pub node-right : {D : Type 0} (o : Option Fault) (b : ℕ) (s : Seen D) → Ok tt ≡ node-answer o b s → (d : D) × (s ≡ right d) × (o ≡ None)
+node-right None b (wrong r) h = absurd (let z : _≡_ {A = ℕ} 0 1 = cc in omega arith)
+node-right None b (right d) h = (d, refl, refl)
+node-right (Some f) b s h = absurd (let z : _≡_ {A = ℕ} 0 1 = cc in omega arith)
+
+module _ {K : Type 0} (κ : Kind K) (m : Meaning) (top leaf : Bool) (M b : ℕ) (old new : List ℕ) (after : Meaning)
+    (filled : new ≡ unless (refusal m b (m .size)) (m .contents b) old) (tallies : after ≡ tallied m) where
+  abbrev seen : Seen (Node K)
+  seen = see-node κ (m .count) M leaf (least M top leaf) (m .contents b)
+
+  went-by : {A : Type 0} (go : Node K → Plan Unit A) (d : Node K) → refusal m b (m .size) ≡ None → seen ≡ right d → run m (with-node κ (m .count) tt M leaf (least M top leaf) b go) ≡ run after (go d)
+  unfolding run
+  went-by go d o s = rw (o, s, tallies)
+
+  -- a node that was read and is right
+  pub went-on : {A : Type 0} (go : Node K → Plan Unit A) → Ok tt ≡ node-answer (refusal m b (m .size)) b seen
+      → (d : Node K) × (see-node κ (m .count) M leaf (least M top leaf) new ≡ right d) × (run m (with-node κ (m .count) tt M leaf (least M top leaf) b go) ≡ run after (go d))
+  went-on go h =
+      let r = node-right (refusal m b (m .size)) b seen h in
+      let q : new ≡ m .contents b = filled ∙ ap (λ (o : Option Fault). unless o (m .contents b) old) (r .2) in
+      (r .0, ap (see-node κ (m .count) M leaf (least M top leaf)) q ∙ r .1, went-by go (r .0) (r .2) (r .1))
+
+  -- and one that was refused
+  pub stops : {A : Type 0} (go : Node K → Plan Unit A) (e : Refusal) → Err e ≡ node-answer (refusal m b (m .size)) b seen
+      → run m (with-node κ (m .count) tt M leaf (least M top leaf) b go) ≡ (bare (Err e), after)
+  unfolding run
+  stops {A} go e h = by (refusal m b (m .size)) seen h
+    where
+      by : (o : Option Fault) (s : Seen (Node K)) → Err e ≡ node-answer o b s → on-read o tt m (run (tallied m) (on-seen tt b go s)) ≡ (bare (Err e), after)
+      by None (wrong r) h = let p : e ≡ Broken r b = cc in rw (p, tallies)
+      by None (right d) h = absurd (let z : _≡_ {A = ℕ} 0 1 = cc in omega arith)
+      by (Some f) s h = let p : e ≡ Unreadable f = cc in rw (p, tallies)
+
+  -- its entries have room
+  pub has-room : (w : ℕ) → 8 + M * w ≤ m .size → length new ≡ m .size → Ok tt ≡ node-answer (refusal m b (m .size)) b seen → 8 + getD new 1 0 * w ≤ length new
+  has-room w f l h =
+      let r = went-on {A = Unit {0}} (λ d. done tt) h in
+      count-fits (least M top leaf) (getD new 1 0) M w (length new) (seen-right κ (m .count) M leaf (least M top leaf) new (r .0) (r .1) .count) (omega arith)
+
+module _ {K : Type 0} (κ : Kind K) (n M : ℕ) (k : K) (top : Bool) (b : ℕ) where
+  abbrev pub next : ℕ → Node K → Plan Unit (Option ℕ)
+  next h d = find-from κ n M k h false (last-kid (d .link) (part κ k (d .entries) .low))
+
+  walk-inner : (h : ℕ) → 0 < h → find-from κ n M k h top b ≡ with-node κ n tt M false (least M top false) b (next (h - 1))
+  unfolding walk
+  walk-inner zero l = absurd (omega arith)
+  walk-inner (suc h) l = let e : h ≡ suc h - 1 = omega arith in ap (λ (x : ℕ). with-node κ n tt M false (least M top false) b (next x)) e
+
+  walk-leaf : (h : ℕ) → h ≡ 0 → find-from κ n M k h top b ≡ with-node κ n tt M true (least M top true) b (λ d. done (lookup κ k (d .entries)))
+  unfolding walk
+  walk-leaf zero l = refl
+  walk-leaf (suc h) l = absurd (omega arith)
+
+module _ {K : Type 0} (κ : Kind K) (leaf : Bool) (m : Meaning) (top : Bool) (M b : ℕ) (old new : List ℕ) (after : Meaning) (r : Result Unit Refusal) (R : Reading κ leaf m top M b old new after r) where
+  answer-is : r ≡ node-answer (refusal m b (m .size)) b (see-node κ (m .count) M leaf (least M top leaf) (m .contents b))
+  answer-is = R .answer
+
+  pub roomy : (w : ℕ) → 8 + M * w ≤ m .size → length new ≡ m .size → Ok tt ≡ r → 8 + getD new 1 0 * w ≤ length new
+  roomy w f l h = has-room κ m top leaf M b old new after (R .filled) (R .tallies) w f l (h ∙ answer-is)
+
+module _ {K : Type 0} (κ : Kind K) (k : K) (m : Meaning) (top : Bool) (M b : ℕ) (old new : List ℕ) (after : Meaning) (r : Result Unit Refusal) (h : ℕ) where
+  pub inner-step : Reading κ false m top M b old new after r → 0 < h → Ok tt ≡ r → (c : ℕ) → c ≡ kid-at κ k (u32-at 4 new) (getD new 1 0) (drop 8 new)
+      → run m (find-from κ (m .count) M k h top b) ≡ run after (find-from κ (after .count) M k (h - 1) false c)
+  inner-step R l o c e =
+      let w = went-on κ m top false M b old new after (R .filled) (R .tallies) (next κ (m .count) M k top b (h - 1)) (o ∙ answer-is κ false m top M b old new after r R) in
+      ap (run m) (walk-inner κ (m .count) M k top b h l) ∙ (w .2
+      ∙ (ap (λ (x : ℕ). run after (find-from κ x M k (h - 1) false (last-kid (w .0 .link) (part κ k (w .0 .entries) .low)))) (sym (ap (λ (x : Meaning). x .count) (R .tallies)))
+      ∙ ap (λ (x : ℕ). run after (find-from κ (after .count) M k (h - 1) false x)) (sym (kid-is κ k (m .count) M false (least M top false) new (w .0) (w .1)) ∙ sym e)))
+
+  pub inner-stop : Reading κ false m top M b old new after r → 0 < h → (e : Refusal) → Err e ≡ r → run m (find-from κ (m .count) M k h top b) ≡ (bare (Err e), after)
+  inner-stop R l e o =
+      ap (run m) (walk-inner κ (m .count) M k top b h l)
+      ∙ stops κ m top false M b old new after (R .filled) (R .tallies) (next κ (m .count) M k top b (h - 1)) e (o ∙ answer-is κ false m top M b old new after r R)
+
+  pub leaf-step : Lawful κ → Reading κ true m top M b old new after r → h ≡ 0 → Ok tt ≡ r → (c : Option ℕ) → c ≡ record-at κ k (getD new 1 0) (drop 8 new)
+      → run m (find-from κ (m .count) M k h top b) ≡ (bare (Ok c), after)
+  unfolding run
+  leaf-step L R l o c e =
+      let w = went-on κ m top true M b old new after (R .filled) (R .tallies) (λ d. done (lookup κ k (d .entries))) (o ∙ answer-is κ true m top M b old new after r R) in
+      ap (run m) (walk-leaf κ (m .count) M k top b h l) ∙ (w .2 ∙ ap (λ (x : Option ℕ). (bare (Ok x), after)) (sym (record-is κ L k (m .count) M true (least M top true) new (w .0) (w .1)) ∙ sym e))
+
+  pub leaf-stop : Reading κ true m top M b old new after r → h ≡ 0 → (e : Refusal) → Err e ≡ r → run m (find-from κ (m .count) M k h top b) ≡ (bare (Err e), after)
+  leaf-stop R l e o =
+      ap (run m) (walk-leaf κ (m .count) M k top b h l)
+      ∙ stops κ m top true M b old new after (R .filled) (R .tallies) (λ d. done (lookup κ k (d .entries))) e (o ∙ answer-is κ true m top M b old new after r R)
+
+module _ {K : Type 0} (κ : Kind K) (k : K) (m after : Meaning) (tallies : after ≡ tallied m) where
+  abbrev top-of : Result Head Refusal
+  top-of = see-head κ (m .count) (m .size) (m .contents 0)
+
+  pub head-stop : (e : Refusal) → Err e ≡ head-answer (refusal m 0 (m .size)) top-of → run m (with-head κ (m .count) (m .size) tt (find-below κ (m .count) (m .size) k)) ≡ (bare (Err e), after)
+  unfolding run
+  head-stop e h = by (refusal m 0 (m .size)) top-of h
+    where
+      by : (o : Option Fault) (s : Result Head Refusal) → Err e ≡ head-answer o s
+          → on-read o tt m (run (tallied m) (on-head tt (find-below κ (m .count) (m .size) k) s)) ≡ (bare (Err e), after)
+      by None (Ok d) h = absurd (let z : _≡_ {A = ℕ} 0 1 = cc in omega arith)
+      by None (Err r) h = let p : e ≡ r = cc in rw (p, tallies)
+      by (Some f) s h = let p : e ≡ Unreadable f = cc in rw (p, tallies)
+
+  pub head-step : (d : Head) → Ok d ≡ head-answer (refusal m 0 (m .size)) top-of
+      → run m (with-head κ (m .count) (m .size) tt (find-below κ (m .count) (m .size) k)) ≡ run after (find-below κ (after .count) (after .size) k d)
+  unfolding run
+  head-step d h = by (refusal m 0 (m .size)) top-of h
+    where
+      by : (o : Option Fault) (s : Result Head Refusal) → Ok d ≡ head-answer o s
+          → on-read o tt m (run (tallied m) (on-head tt (find-below κ (m .count) (m .size) k) s)) ≡ run after (find-below κ (after .count) (after .size) k d)
+      by None (Ok x) h = let p : x ≡ d = cc in rw (p, tallies)
+      by None (Err r) h = absurd (let z : _≡_ {A = ℕ} 0 1 = cc in omega arith)
+      by (Some f) s h = absurd (let z : _≡_ {A = ℕ} 0 1 = cc in omega arith)
+
+  -- a head that keeps rule 1 has room for m entries, and a level
+  pub head-room : (d : Head) → 64 ≤ m .size → Ok d ≡ head-answer (refusal m 0 (m .size)) top-of → (8 + d .order * (κ .width + 4) ≤ m .size) × (1 ≤ d .levels)
+  head-room d l h = by (refusal m 0 (m .size)) h
+    where
+      by : (o : Option Fault) → Ok d ≡ head-answer o top-of → (8 + d .order * (κ .width + 4) ≤ m .size) × (1 ≤ d .levels)
+      by None h =
+          let r = rule-1-kept κ (m .count) (m .size) (m .contents 0) d (sym h) in
+          let most = (m .size - 8) / (κ .width + 4) in
+          let a = and-parts (order-fits κ (m .size) (d .order)) (within 1 10 (d .levels) && (is-block (m .count) (d .root) && ltb (d .«first_free») (m .count))) r in
+          let b = and-parts (leb 3 (d .order)) (leb (d .order) most) (a .0) in
+          let c = and-parts (within 1 10 (d .levels)) (is-block (m .count) (d .root) && ltb (d .«first_free») (m .count)) (a .1) in
+          let e = and-parts (leb 1 (d .levels)) (leb (d .levels) 10) (c .0) in
+          let u = leb-true (d .order) most (b .1) in
+          let v = leb-true 1 (d .levels) (e .0) in
+          (omega (arith, mul-le (d .order) (κ .width + 4) ((m .size - 8) / (κ .width + 4)) (κ .width + 4) u (omega arith), div-add-mod' (m .size - 8) (κ .width + 4)), v)
+      by (Some f) h = absurd (let z : _≡_ {A = ℕ} 0 1 = cc in omega arith)
+
+pub unfit : {K : Type 0} (κ : Kind K) (k : K) (m : Meaning) (n size : ℕ) → n ≡ m .count → size ≡ m .size → false ≡ is-fit n size → run m (find-plan κ (m .count) (m .size) k) ≡ (bare (Err Unfit), m)
+unfolding run
+unfit κ k m n size en es h =
+    let e : is-fit (m .count) (m .size) ≡ false = ap (λ (x : ℕ). is-fit x (m .size)) (sym en) ∙ (ap (λ (x : ℕ). is-fit n x) (sym es) ∙ sym h) in
+    ap (λ (b : Bool). run m (cond b (with-head κ (m .count) (m .size) tt (find-below κ (m .count) (m .size) k)) (refuse tt Unfit))) e

@@ -1,0 +1,4 @@
+//! The calls of the index, over any store and any key kind.
+
+pub mod find;
+mod reading;

@@ -1,0 +1,3 @@
+pub mod HeadSeen
+pub mod RowSteps
+pub mod Seen

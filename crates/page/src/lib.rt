@@ -1,0 +1,6 @@
+//! One block's bytes: the head, a node, a free block.
+
+pub mod fields;
+pub mod head;
+pub mod node;
+pub mod rows;
