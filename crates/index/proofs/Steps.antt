@@ -23,7 +23,7 @@ use Rattle.store.specs.Meaning.{Meaning, tallied}
 use Rattle.tree.specs.declared.head.Head.{Head}
 use Rattle.tree.specs.declared.refusal.Refusal.{Refusal}
 use Rattle.tree.specs.declared.refusal.Refusal.the-variants.{Broken, Unfit, Unreadable}
-use Rattle.tree.specs.Calls.{find-below, find-from, find-plan}
+use Rattle.tree.specs.Calls.{find-below, find-from}
 use Rattle.tree.specs.Entries.{lookup, part}
 use Rattle.tree.specs.Fields.{u32-at, within}
 use Rattle.tree.specs.Heads.{order-fits, see-head}
@@ -31,7 +31,7 @@ use Rattle.tree.specs.Nodes.{Node, Seen, is-block, least, see-node}
 use Rattle.tree.specs.Nodes.Seen.{wrong, right}
 use Rattle.tree.specs.Plans.{Plan, bare, on-read, run}
 use Rattle.tree.specs.Plans.Plan.{done, look, refuse}
-use Rattle.tree.specs.Walks.{is-fit, last-kid, on-head, on-seen, walk, with-head, with-node}
+use Rattle.tree.specs.Walks.{is-fit, last-kid, on-head, on-seen, walk, when-fit, with-head, with-node}
 
 pub node-right : {D : Type 0} (o : Option Fault) (b : ℕ) (s : Seen D) → Ok tt ≡ node-answer o b s → (d : D) × (s ≡ right d) × (o ≡ None)
 node-right None b (wrong r) h = absurd (let z : _≡_ {A = ℕ} 0 1 = cc in omega arith)
@@ -119,30 +119,42 @@ module _ {K : Type 0} (κ : Kind K) (k : K) (m : Meaning) (top : Bool) (M b : �
       ap (run m) (walk-leaf κ (m .count) M k top b h l)
       ∙ stops κ m top true M b old new after (R .filled) (R .tallies) (λ d. done (lookup κ k (d .entries))) e (o ∙ answer-is κ true m top M b old new after r R)
 
-module _ {K : Type 0} (κ : Kind K) (k : K) (m after : Meaning) (tallies : after ≡ tallied m) where
+module _ {K : Type 0} (κ : Kind K) (m after : Meaning) (tallies : after ≡ tallied m) where
   abbrev top-of : Result Head Refusal
   top-of = see-head κ (m .count) (m .size) (m .contents 0)
 
-  pub head-stop : (e : Refusal) → Err e ≡ head-answer (refusal m 0 (m .size)) top-of → run m (with-head κ (m .count) (m .size) tt (find-below κ (m .count) (m .size) k)) ≡ (bare (Err e), after)
+  -- a head that was refused
+  pub head-stop : {A : Type 0} (go : Head → Plan Unit A) (e : Refusal) → Err e ≡ head-answer (refusal m 0 (m .size)) top-of
+      → run m (with-head κ (m .count) (m .size) tt go) ≡ (bare (Err e), after)
   unfolding run
-  head-stop e h = by (refusal m 0 (m .size)) top-of h
+  head-stop go e h = by (refusal m 0 (m .size)) top-of h
     where
-      by : (o : Option Fault) (s : Result Head Refusal) → Err e ≡ head-answer o s
-          → on-read o tt m (run (tallied m) (on-head tt (find-below κ (m .count) (m .size) k) s)) ≡ (bare (Err e), after)
+      by : (o : Option Fault) (s : Result Head Refusal) → Err e ≡ head-answer o s → on-read o tt m (run (tallied m) (on-head tt go s)) ≡ (bare (Err e), after)
       by None (Ok d) h = absurd (let z : _≡_ {A = ℕ} 0 1 = cc in omega arith)
       by None (Err r) h = let p : e ≡ r = cc in rw (p, tallies)
       by (Some f) s h = let p : e ≡ Unreadable f = cc in rw (p, tallies)
 
-  pub head-step : (d : Head) → Ok d ≡ head-answer (refusal m 0 (m .size)) top-of
-      → run m (with-head κ (m .count) (m .size) tt (find-below κ (m .count) (m .size) k)) ≡ run after (find-below κ (after .count) (after .size) k d)
+  -- and one that was read
+  pub head-step : {A : Type 0} (go : Head → Plan Unit A) (d : Head) → Ok d ≡ head-answer (refusal m 0 (m .size)) top-of
+      → run m (with-head κ (m .count) (m .size) tt go) ≡ run after (go d)
   unfolding run
-  head-step d h = by (refusal m 0 (m .size)) top-of h
+  head-step go d h = by (refusal m 0 (m .size)) top-of h
     where
-      by : (o : Option Fault) (s : Result Head Refusal) → Ok d ≡ head-answer o s
-          → on-read o tt m (run (tallied m) (on-head tt (find-below κ (m .count) (m .size) k) s)) ≡ run after (find-below κ (after .count) (after .size) k d)
+      by : (o : Option Fault) (s : Result Head Refusal) → Ok d ≡ head-answer o s → on-read o tt m (run (tallied m) (on-head tt go s)) ≡ run after (go d)
       by None (Ok x) h = let p : x ≡ d = cc in rw (p, tallies)
       by None (Err r) h = absurd (let z : _≡_ {A = ℕ} 0 1 = cc in omega arith)
       by (Some f) s h = absurd (let z : _≡_ {A = ℕ} 0 1 = cc in omega arith)
+
+  pub find-step : (k : K) (d : Head) → Ok d ≡ head-answer (refusal m 0 (m .size)) top-of
+      → run m (with-head κ (m .count) (m .size) tt (find-below κ (m .count) (m .size) k)) ≡ run after (find-below κ (after .count) (after .size) k d)
+  find-step k d h =
+      head-step (find-below κ (m .count) (m .size) k) d h
+      ∙ ap (λ (x : ℕ). run after (find-from κ x (d .order) k (d .levels - 1) true (d .root))) (sym (ap (λ (x : Meaning). x .count) tallies))
+
+  pub count-step : (d : Head) → Ok d ≡ head-answer (refusal m 0 (m .size)) top-of
+      → run m (with-head κ (m .count) (m .size) tt (λ h. done (h .«key_count»))) ≡ (bare (Ok (d .«key_count»)), after)
+  unfolding run
+  count-step d h = head-step (λ h. done (h .«key_count»)) d h
 
   -- a head that keeps rule 1 has room for m entries, and a level
   pub head-room : (d : Head) → 64 ≤ m .size → Ok d ≡ head-answer (refusal m 0 (m .size)) top-of → (8 + d .order * (κ .width + 4) ≤ m .size) × (1 ≤ d .levels)
@@ -161,8 +173,10 @@ module _ {K : Type 0} (κ : Kind K) (k : K) (m after : Meaning) (tallies : after
           (omega (arith, mul-le (d .order) (κ .width + 4) ((m .size - 8) / (κ .width + 4)) (κ .width + 4) u (omega arith), div-add-mod' (m .size - 8) (κ .width + 4)), v)
       by (Some f) h = absurd (let z : _≡_ {A = ℕ} 0 1 = cc in omega arith)
 
-pub unfit : {K : Type 0} (κ : Kind K) (k : K) (m : Meaning) (n size : ℕ) → n ≡ m .count → size ≡ m .size → false ≡ is-fit n size → run m (find-plan κ (m .count) (m .size) k) ≡ (bare (Err Unfit), m)
+-- a store that has no room for an index
+pub unfit : {A : Type 0} (go : Plan Unit A) (m : Meaning) (n size : ℕ) → n ≡ m .count → size ≡ m .size → false ≡ is-fit n size
+    → run m (when-fit (m .count) (m .size) tt go) ≡ (bare (Err Unfit), m)
 unfolding run
-unfit κ k m n size en es h =
+unfit go m n size en es h =
     let e : is-fit (m .count) (m .size) ≡ false = ap (λ (x : ℕ). is-fit x (m .size)) (sym en) ∙ (ap (λ (x : ℕ). is-fit n x) (sym es) ∙ sym h) in
-    ap (λ (b : Bool). run m (cond b (with-head κ (m .count) (m .size) tt (find-below κ (m .count) (m .size) k)) (refuse tt Unfit))) e
+    ap (λ (b : Bool). run m (cond b go (refuse tt Unfit))) e

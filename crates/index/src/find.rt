@@ -21,7 +21,14 @@ use tree::refusal::Refused;
 const LONGEST: usize = 512;
 
 /// Goes from the root to the leaf of a key.
-fn descend<S: Store, K: Key>(store: &mut S, key: &K, order: u8, levels: u8, root: u32, page: &mut [u8]) -> Result<Option<u32>, Refusal>
+fn descend<S: Store, K: Key>(
+    store: &mut S,
+    key: &K,
+    order: u8,
+    levels: u8,
+    root: u32,
+    page: &mut [u8],
+) -> Result<Option<u32>, Refusal>
     requires { ⌜ length (now page) ≡ S·Store .meaning (now store) .size ⌝ ∗ ⌜ 8 + order * (K·Key .kind .width + 4) ≤ S·Store .meaning (now store) .size ⌝ ∗ ⌜ 1 ≤ levels ⌝ }
     ensures { λ r. ⌜ run (S·Store .meaning (now (store .entry))) (find-from (K·Key .kind) (S·Store .meaning (now (store .entry)) .count) order (now (key .entry)) (levels - 1) true root) ≡ (bare r, S·Store .meaning (now (store .exit))) ⌝ }
 {
@@ -37,7 +44,11 @@ fn descend<S: Store, K: Key>(store: &mut S, key: &K, order: u8, levels: u8, root
 }
 
 /// Reads the head, and from there on to the leaf.
-fn find_below<S: Store, K: Key>(store: &mut S, key: &K, page: &mut [u8]) -> Result<Option<u32>, Refusal>
+fn find_below<S: Store, K: Key>(
+    store: &mut S,
+    key: &K,
+    page: &mut [u8],
+) -> Result<Option<u32>, Refusal>
     requires { ⌜ length (now page) ≡ S·Store .meaning (now store) .size ⌝ ∗ ⌜ 64 ≤ S·Store .meaning (now store) .size ⌝ }
     ensures { λ r. ⌜ run (S·Store .meaning (now (store .entry))) (with-head (K·Key .kind) (S·Store .meaning (now (store .entry)) .count) (S·Store .meaning (now (store .entry)) .size) tt (find-below (K·Key .kind) (S·Store .meaning (now (store .entry)) .count) (S·Store .meaning (now (store .entry)) .size) (now (key .entry)))) ≡ (bare r, S·Store .meaning (now (store .exit))) ⌝ }
 {
@@ -65,6 +76,9 @@ pub fn find<S: Store, K: Key>(store: &mut S, key: &K) -> Result<(Option<u32>, u6
     let before = store.tally();
     match find_record(store, key) {
         Ok(record) => Ok((record, store.tally().wrapping_sub(before))),
-        Err(refusal) => Err(Refused { refusal, reads: store.tally().wrapping_sub(before) }),
+        Err(refusal) => Err(Refused {
+            refusal,
+            reads: store.tally().wrapping_sub(before),
+        }),
     }
 }

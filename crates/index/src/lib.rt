@@ -1,4 +1,6 @@
 //! The calls of the index, over any store and any key kind.
 
+pub mod count;
 pub mod find;
+pub mod format;
 mod reading;

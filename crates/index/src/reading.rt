@@ -17,7 +17,14 @@ use tree::refusal::Refusal;
 use tree::refusal::RefusalFromFault;
 
 /// Reads a node into the page and examines it.
-pub(crate) fn read_node<S: Store, K: Key>(store: &mut S, block: u32, leaf: bool, top: bool, order: u8, page: &mut [u8]) -> Result<(), Refusal>
+pub(crate) fn read_node<S: Store, K: Key>(
+    store: &mut S,
+    block: u32,
+    leaf: bool,
+    top: bool,
+    order: u8,
+    page: &mut [u8],
+) -> Result<(), Refusal>
     requires { ⌜ length (now page) ≡ S·Store .meaning (now store) .size ⌝ ∗ ⌜ 8 + order * (K·Key .kind .width + 4) ≤ S·Store .meaning (now store) .size ⌝ }
     ensures { λ r. ⌜ Reading (K·Key .kind) leaf (S·Store .meaning (now (store .entry))) top order block (now (page .entry)) (now (page .exit)) (S·Store .meaning (now (store .exit))) r ⌝ }
 {

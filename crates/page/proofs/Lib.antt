@@ -1,3 +1,4 @@
 pub mod HeadSeen
 pub mod RowSteps
 pub mod Seen
+pub mod Fills

@@ -116,16 +116,16 @@ module _ {K : Type 0} (κ : Kind K) where
   rest-is n leaf bs None h = refl
   rest-is n leaf bs (Some es) h =
       flaw-check 4 (rises κ es) _ ∙ rw (rises-is es)
-        (ap (λ (x : Option ℕ). cond (rises-from None es) x (Some 4))
-          (flaw-check 5 (numbers-fit κ n leaf (node-with κ bs es)) (right (node-with κ bs es)) ∙ ap (λ (b : Bool). cond b None (Some 5)) (numbers n (getD bs 1 0) leaf bs es refl h)))
+      (ap (λ (x : Option ℕ). cond (rises-from None es) x (Some 4))
+      (flaw-check 5 (numbers-fit κ n leaf (node-with κ bs es)) (right (node-with κ bs es)) ∙ ap (λ (b : Bool). cond b None (Some 5)) (numbers n (getD bs 1 0) leaf bs es refl h)))
 
   pub flaw-is : (n m : ℕ) (leaf : Bool) (low : ℕ) (bs : List ℕ) → flaw-of (see-node κ n m leaf low bs)
       ≡ verdict (eqb (getD bs 0 0) (tag-of leaf)) (leb low (getD bs 1 0) && leb (getD bs 1 0) m) (rows-rise κ (κ .width + 4) (getD bs 1 0) (drop 8 bs)) (links-fit κ n leaf bs)
   unfolding see-node
   flaw-is n m leaf low bs =
       flaw-check 2 (eqb (getD bs 0 0) (tag-of leaf)) _ ∙ ap (λ (x : Option ℕ). cond (eqb (getD bs 0 0) (tag-of leaf)) x (Some 2))
-        (flaw-check 3 (leb low (getD bs 1 0) && leb (getD bs 1 0) m) _ ∙ ap (λ (x : Option ℕ). cond (leb low (getD bs 1 0) && leb (getD bs 1 0) m) x (Some 3))
-          (rw (rise-entries (getD bs 1 0) (drop 8 bs)) (rest-is n leaf bs (see-entries κ (getD bs 1 0) (drop 8 bs)) (kids-entries n (getD bs 1 0) (drop 8 bs)))))
+      (flaw-check 3 (leb low (getD bs 1 0) && leb (getD bs 1 0) m) _ ∙ ap (λ (x : Option ℕ). cond (leb low (getD bs 1 0) && leb (getD bs 1 0) m) x (Some 3))
+      (rw (rise-entries (getD bs 1 0) (drop 8 bs)) (rest-is n leaf bs (see-entries κ (getD bs 1 0) (drop 8 bs)) (kids-entries n (getD bs 1 0) (drop 8 bs)))))
 
   check-right : {A : Type 0} (r : ℕ) (t : Bool) (s : Seen A) (d : A) → check r t s ≡ right d → (t ≡ true) × (s ≡ right d)
   check-right r true s d h = (refl, h)
@@ -155,8 +155,10 @@ module _ {K : Type 0} (κ : Kind K) where
       unright : Node K → Seen (Node K) → Node K
       unright x (wrong r) = x
       unright x (right y) = y
+
       seen-same : {es : List (K × ℕ)} → _≡_ {A = Seen (Node K)} (right (node-with κ bs es)) (right d) → es ≡ d .entries
       seen-same {es} p = ap (λ (s : Seen (Node K)). unright d s .entries) p
+
       seen-link : {es : List (K × ℕ)} → _≡_ {A = Seen (Node K)} (right (node-with κ bs es)) (right d) → d .link ≡ u32-at 4 bs
       seen-link {es} p = sym (ap (λ (s : Seen (Node K)). unright d s .link) p)
 
@@ -172,6 +174,7 @@ module _ {K : Type 0} (κ : Kind K) where
       by : (t : Bool) (x v : ℕ) (e : K × ℕ) (fs : List (K × ℕ)) → e .1 ≡ v → x ≡ last-kid v (part κ k fs .low) → cond t b x ≡ last-kid b (part-at t e fs (part κ k fs) .low)
       by true x v e fs q h = refl
       by false x v e fs q h = h ∙ ap (λ (y : ℕ). last-kid y (part κ k fs .low)) (sym q)
+
       go : (o : Option K) (r : Option (List (K × ℕ))) → see-entries κ n (past κ bs) ≡ r → join-entry o (number-of κ bs) r ≡ Some es
           → ((fs : List (K × ℕ)) → see-entries κ n (past κ bs) ≡ Some fs → kid-at κ k (number-of κ bs) n (past κ bs) ≡ last-kid (number-of κ bs) (part κ k fs .low))
           → kid-by κ k b o (kid-at κ k (number-of κ bs) n (past κ bs)) ≡ last-kid b (part κ k es .low)
@@ -206,11 +209,13 @@ module _ {K : Type 0} (κ : Kind K) where
         cond-true : (a b : Bool) → cond a b false ≡ true → b ≡ true
         cond-true true b h = h
         cond-true false b h = absurd (grind arith)
+
         by : (a b : Bool) (x : Option ℕ) (v : ℕ) (y : Option ℕ) → (a ≡ true → y ≡ None) → x ≡ y → cond b x (cond a None (Some v)) ≡ cond (not a && not b) (Some v) y
         by true true x v y f e = e
         by true false x v y f e = sym (f refl)
         by false true x v y f e = e
         by false false x v y f e = refl
+
         go : (o : Option K) (q : Option (List (K × ℕ))) → see-entries κ n (past κ bs) ≡ q → join-entry o (number-of κ bs) q ≡ Some es
             → ((j : K) (fs : List (K × ℕ)) → see-entries κ n (past κ bs) ≡ Some fs → rises-from (Some j) fs ≡ true → record-at κ k n (past κ bs) ≡ lookup κ k fs)
             → record-by κ k (number-of κ bs) o (record-at κ k n (past κ bs)) ≡ lookup κ k es

@@ -21,6 +21,7 @@ use keys::rows::rising;
 const ENTRIES: usize = 8;
 /// The tags of a leaf and of an inner node.
 const LEAF: u8 = 1;
+
 const INNER: u8 = 2;
 
 /// The least entries of a node.
@@ -40,7 +41,11 @@ fn has_tag(page: &[u8], leaf: bool) -> bool
     requires { ⌜ 8 ≤ length (now page) ⌝ }
     ensures { λ r. ⌜ r ≡ eqb (u8-at 0 (now (page .entry))) (tag-of leaf) ⌝ }
 {
-    if leaf { page[0] == LEAF } else { page[0] == INNER }
+    if leaf {
+        page[0] == LEAF
+    } else {
+        page[0] == INNER
+    }
 }
 
 /// Rule 3: the count is within its bounds.

@@ -8,11 +8,11 @@ use crate::complaint::FailureFromComplaint;
 use crate::complaint::FailureFromIoError;
 use crate::words::bytes;
 use crate::words::number;
+use numerals::hex::text_of;
 use std::fs;
 use store::fault::Cause;
 use store::fault::Fault;
 use store::store::Store;
-use numerals::hex::text_of;
 
 /// Writes the blocks of the plain store to a file.
 pub fn save(rt: &LibcRuntime, card: &mut Card, file: &[u8]) -> Result<(), Failure> {

@@ -5,6 +5,7 @@
 pub enum Verb {
     Card,
     Open,
+    Kind,
     Save,
     Mark,
     Clear,
@@ -12,11 +13,15 @@ pub enum Verb {
     Dump,
     Write,
     Tally,
+    Format,
+    Find,
+    Count,
 }
 
-const VERBS: [Verb; 9] = [
+const VERBS: [Verb; 13] = [
     Verb::Card,
     Verb::Open,
+    Verb::Kind,
     Verb::Save,
     Verb::Mark,
     Verb::Clear,
@@ -24,6 +29,9 @@ const VERBS: [Verb; 9] = [
     Verb::Dump,
     Verb::Write,
     Verb::Tally,
+    Verb::Format,
+    Verb::Find,
+    Verb::Count,
 ];
 
 impl Verb {
@@ -31,6 +39,7 @@ impl Verb {
         match self {
             Verb::Card => b"card",
             Verb::Open => b"open",
+            Verb::Kind => b"kind",
             Verb::Save => b"save",
             Verb::Mark => b"mark",
             Verb::Clear => b"clear",
@@ -38,6 +47,9 @@ impl Verb {
             Verb::Dump => b"dump",
             Verb::Write => b"write",
             Verb::Tally => b"tally",
+            Verb::Format => b"format",
+            Verb::Find => b"find",
+            Verb::Count => b"count",
         }
     }
 
@@ -62,6 +74,9 @@ pub enum Command<'a> {
     Dump(&'a [u8]),
     Write(&'a [u8], &'a [u8]),
     Tally,
+    Format(&'a [u8]),
+    Find(&'a [u8]),
+    Count,
 }
 
 /// The command on the card that a name and the words after it make, if their count is right.
@@ -74,6 +89,9 @@ pub fn command_of<'a>(verb: Verb, words: &[&'a [u8]]) -> Option<Command<'a>> {
         (Verb::Dump, [block]) => Some(Command::Dump(block)),
         (Verb::Write, [block, part]) => Some(Command::Write(block, part)),
         (Verb::Tally, []) => Some(Command::Tally),
+        (Verb::Format, [order]) => Some(Command::Format(order)),
+        (Verb::Find, [key]) => Some(Command::Find(key)),
+        (Verb::Count, []) => Some(Command::Count),
         _ => None,
     }
 }

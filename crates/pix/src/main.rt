@@ -4,6 +4,8 @@ mod blocks;
 mod card;
 mod command;
 mod complaint;
+mod kind;
+mod lookups;
 mod making;
 mod tool;
 mod words;

@@ -4,10 +4,11 @@ use crate::complaint::Complaint;
 use crate::complaint::Failure;
 use crate::complaint::FailureFromAllocError;
 use crate::complaint::FailureFromComplaint;
-use std::alloc::AllocError;
-use std::alloc::Global;
+use keys::text::Text;
 use numerals::decimal::number_below;
 use numerals::hex::bytes_of;
+use std::alloc::AllocError;
+use std::alloc::Global;
 
 /// The words of a line, which spaces separate.
 pub fn split_words(heap: Global, line: &[u8]) -> Result<Vec<&[u8]>, AllocError> {
@@ -37,6 +38,14 @@ pub fn number_to(word: &[u8], most: u32) -> Result<u32, Complaint> {
     match number_below(word, u64::from(most) + 1) {
         Some(number) => Ok(number as u32),
         None => Err(Complaint::BadNumber),
+    }
+}
+
+/// A key of a kind.
+pub fn key<K: Text>(word: &[u8]) -> Result<K, Complaint> {
+    match K::parse(word) {
+        Some(key) => Ok(key),
+        None => Err(Complaint::BadKey),
     }
 }
 

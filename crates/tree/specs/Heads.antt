@@ -49,13 +49,13 @@ module _ {K : Type 0} (κ : Kind K) where
   unfoldable pub see-head : ℕ → ℕ → List ℕ → Result Head Refusal
   see-head n size bs =
       cond (has-letters bs)
-        (cond (has-version bs)
-          (cond (eqb (u8-at 5 bs) (κ .code)) (cond (rule-1 n size (head-of bs)) (Ok (head-of bs)) (Err (Broken 1 0))) (Err OtherKind))
-          (Err OtherVersion))
-        (Err NoLetters)
+      (cond (has-version bs)
+      (cond (eqb (u8-at 5 bs) (κ .code)) (cond (rule-1 n size (head-of bs)) (Ok (head-of bs)) (Err (Broken 1 0))) (Err OtherKind))
+      (Err OtherVersion))
+      (Err NoLetters)
 
   abbrev pub write-head : ℕ → Head → List ℕ
   write-head size h =
       padded size
-        (0x50 ∷ 0x49 ∷ 0x58 ∷ 0 ∷ 1 ∷ κ .code ∷ h .order ∷ h .levels
-         ∷ (big-endian 2 (h .root) ++ (big-endian 2 (h .«first_free») ++ (big-endian 2 (h .«free_count») ++ big-endian 4 (h .«key_count»)))))
+      (0x50 ∷ 0x49 ∷ 0x58 ∷ 0 ∷ 1 ∷ κ .code ∷ h .order ∷ h .levels
+      ∷ (big-endian 2 (h .root) ++ (big-endian 2 (h .«first_free») ++ (big-endian 2 (h .«free_count») ++ big-endian 4 (h .«key_count»)))))

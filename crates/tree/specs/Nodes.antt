@@ -78,9 +78,9 @@ module _ {K : Type 0} (κ : Kind K) where
   unfoldable pub see-node : ℕ → ℕ → Bool → ℕ → List ℕ → Seen (Node K)
   see-node n m is-leaf low bs =
       check 2 (eqb (u8-at 0 bs) (tag-of is-leaf))
-        (check 3 (leb low (u8-at 1 bs) && leb (u8-at 1 bs) m)
-          (or-wrong 4 (λ es. check 4 (rises κ es) (check 5 (numbers-fit n is-leaf (node-with bs es)) (right (node-with bs es))))
-            (see-entries κ (u8-at 1 bs) (drop 8 bs))))
+      (check 3 (leb low (u8-at 1 bs) && leb (u8-at 1 bs) m)
+      (or-wrong 4 (λ es. check 4 (rises κ es) (check 5 (numbers-fit n is-leaf (node-with bs es)) (right (node-with bs es))))
+      (see-entries κ (u8-at 1 bs) (drop 8 bs))))
 
   abbrev pub write-node : ℕ → Bool → Node K → List ℕ
   write-node size is-leaf d = padded size (tag-of is-leaf ∷ length (d .entries) ∷ 0 ∷ 0 ∷ (big-endian 4 (d .link) ++ write-entries κ (d .entries)))

@@ -66,6 +66,6 @@ module _ {K : Type 0} (κ : Kind K) (n : ℕ) where
   walk p m k zero top b go = with-node p m true (least m top true) b (λ d. go (record { path = []; leaf = b; node = d }))
   walk p m k (suc h) top b go =
       with-node p m false (least m top false) b (λ d.
-        let q = part κ k (d .entries) in
-        walk p m k h false (last-kid (d .link) (q .low)) (λ f.
-          go (record { path = record { block = b; link = d .link; before = q .low; behind = q .high } ∷ f .path; leaf = f .leaf; node = f .node })))
+      let q = part κ k (d .entries) in
+      walk p m k h false (last-kid (d .link) (q .low)) (λ f.
+      go (record { path = record { block = b; link = d .link; before = q .low; behind = q .high } ∷ f .path; leaf = f .leaf; node = f .node })))

@@ -24,8 +24,8 @@ returns-in-Break-read-node g c =
     let p = err-from-errBy (c .from-residual .result) (c .from-residual .ensures .1) in
     c .loop-level .inv .0
     ∙ (inner-stop (g .K·Key .kind) (c .args .key .now) (g .S·Store .meaning (c .loop-level .store)) (c .loop-level .top) (c .args .order) (c .loop-level .block)
-        (c .loop-level .page) (c .read-node .last .page) (g .S·Store .meaning (c .read-node .last .store)) (Err (c .in-Break-read-node .field-0 .0)) (c .args .levels - c .loop-level .-level)
-        e (omega arith) (c .in-Break-read-node .field-0 .0) refl
+    (c .loop-level .page) (c .read-node .last .page) (g .S·Store .meaning (c .read-node .last .store)) (Err (c .in-Break-read-node .field-0 .0)) (c .args .levels - c .loop-level .-level)
+    e (omega arith) (c .in-Break-read-node .field-0 .0) refl
     ∙ rw (p .1, p .2))
 
 pub child-block-requires : need.child-block-requires
@@ -33,8 +33,8 @@ child-block-requires g c κs =
     let e = c .in-Continue-read-node .ensures tt in
     let v = c .loop-level .inv .1 in
     roomy (g .K·Key .kind) false (g .S·Store .meaning (c .loop-level .store)) (c .loop-level .top) (c .args .order) (c .loop-level .block)
-      (c .loop-level .page) (c .read-node .last .page) (g .S·Store .meaning (c .read-node .last .store)) (Ok tt)
-      e (g .K·Key .kind .width + 4) (c .loop-level .inv .2) (omega (arith, c .read-node .kept .page)) refl
+    (c .loop-level .page) (c .read-node .last .page) (g .S·Store .meaning (c .read-node .last .store)) (Ok tt)
+    e (g .K·Key .kind .width + 4) (c .loop-level .inv .2) (omega (arith, c .read-node .kept .page)) refl
 
 pub loop-level-again : need.loop-level-again
 loop-level-again g c =
@@ -42,13 +42,15 @@ loop-level-again g c =
     let v = c .loop-level .inv .1 in
     let u = c .loop-level .inv .2 in
     let s = ap (λ (x : Meaning). x .size) (e .tallies) in
-    let d : c .args .levels - c .loop-level .-level - 1 ≡ c .args .levels - (c .loop-level .-level + 1) = omega arith in
-    (c .loop-level .inv .0
-    ∙ (inner-step (g .K·Key .kind) (c .args .key .now) (g .S·Store .meaning (c .loop-level .store)) (c .loop-level .top) (c .args .order) (c .loop-level .block)
-        (c .loop-level .page) (c .read-node .last .page) (g .S·Store .meaning (c .read-node .last .store)) (Ok tt) (c .args .levels - c .loop-level .-level)
-        e (omega arith) refl (c .child-block .result) (c .child-block .ensures)
-    ∙ ap (λ (h : ℕ). run (g .S·Store .meaning (c .read-node .last .store)) (find-from (g .K·Key .kind) (g .S·Store .meaning (c .read-node .last .store) .count) (c .args .order) (c .args .key .now) h false (c .child-block .result))) d),
-    omega (arith, c .read-node .kept .page), omega arith)
+    let d : c .args .levels - c .loop-level .-level - 1 ≡ c .args .levels - (c .loop-level .-level + 1) = omega arith in (
+      c .loop-level .inv .0
+          ∙ (inner-step (g .K·Key .kind) (c .args .key .now) (g .S·Store .meaning (c .loop-level .store)) (c .loop-level .top) (c .args .order) (c .loop-level .block)
+          (c .loop-level .page) (c .read-node .last .page) (g .S·Store .meaning (c .read-node .last .store)) (Ok tt) (c .args .levels - c .loop-level .-level)
+          e (omega arith) refl (c .child-block .result) (c .child-block .ensures)
+          ∙ ap (λ (h : ℕ). run (g .S·Store .meaning (c .read-node .last .store)) (find-from (g .K·Key .kind) (g .S·Store .meaning (c .read-node .last .store) .count) (c .args .order) (c .args .key .now) h false (c .child-block .result))) d),
+      omega (arith, c .read-node .kept .page),
+      omega arith,
+    )
 
 pub read-node-requires-2 : need.read-node-requires-2
 read-node-requires-2 g c κs = (c .loop-level .inv .1, c .loop-level .inv .2)
@@ -59,8 +61,8 @@ returns-in-Break-read-node-2 g c =
     let p = err-from-errBy (c .from-residual-in-Break-read-node-2 .result) (c .from-residual-in-Break-read-node-2 .ensures .1) in
     c .loop-level .inv .0
     ∙ (leaf-stop (g .K·Key .kind) (c .args .key .now) (g .S·Store .meaning (c .loop-level .store)) (c .loop-level .top) (c .args .order) (c .loop-level .block)
-        (c .loop-level .page) (c .read-node-2 .last .page) (g .S·Store .meaning (c .read-node-2 .last .store)) (Err (c .in-Break-read-node-2 .field-0 .0)) (c .args .levels - c .loop-level .-level)
-        e (omega arith) (c .in-Break-read-node-2 .field-0 .0) refl
+    (c .loop-level .page) (c .read-node-2 .last .page) (g .S·Store .meaning (c .read-node-2 .last .store)) (Err (c .in-Break-read-node-2 .field-0 .0)) (c .args .levels - c .loop-level .-level)
+    e (omega arith) (c .in-Break-read-node-2 .field-0 .0) refl
     ∙ rw (p .1, p .2))
 
 pub record-requires : need.record-requires
@@ -71,5 +73,5 @@ returns g c =
     let e = c .in-Continue-read-node-2 .ensures tt in
     c .loop-level .inv .0
     ∙ leaf-step (g .K·Key .kind) (c .args .key .now) (g .S·Store .meaning (c .loop-level .store)) (c .loop-level .top) (c .args .order) (c .loop-level .block)
-        (c .loop-level .page) (c .read-node-2 .last .page) (g .S·Store .meaning (c .read-node-2 .last .store)) (Ok tt) (c .args .levels - c .loop-level .-level)
-        (g .K·Key·met .lawful) e (omega arith) refl (c .record .result) (c .record .ensures)
+    (c .loop-level .page) (c .read-node-2 .last .page) (g .S·Store .meaning (c .read-node-2 .last .store)) (Ok tt) (c .args .levels - c .loop-level .-level)
+    (g .K·Key·met .lawful) e (omega arith) refl (c .record .result) (c .record .ensures)

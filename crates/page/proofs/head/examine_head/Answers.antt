@@ -21,9 +21,9 @@ returns-then-not-has-code g c = search needs
 pub returns-then-not-keeps-rule-1 : need.returns-then-not-keeps-rule-1
 returns-then-not-keeps-rule-1 g c =
     head-seen (g .K·Key .kind) (c .args .count) (length (c .args .page .now)) (c .args .page .now) (c .head-of-head .result) true true true false
-      (c .if-not-has-letters .ensures tt) (c .if-not-has-version .ensures tt) (c .if-not-has-code .ensures tt) (c .head-of-head .ensures) (c .if-not-keeps-rule-1 .ensures tt)
+    (c .if-not-has-letters .ensures tt) (c .if-not-has-version .ensures tt) (c .if-not-has-code .ensures tt) (c .head-of-head .ensures) (c .if-not-keeps-rule-1 .ensures tt)
 
 pub returns : need.returns
 returns g c =
     head-seen (g .K·Key .kind) (c .args .count) (length (c .args .page .now)) (c .args .page .now) (c .head-of-head .result) true true true true
-      (c .if-not-has-letters .ensures tt) (c .if-not-has-version .ensures tt) (c .if-not-has-code .ensures tt) (c .head-of-head .ensures) (c .if-not-keeps-rule-1 .ensures tt)
+    (c .if-not-has-letters .ensures tt) (c .if-not-has-version .ensures tt) (c .if-not-has-code .ensures tt) (c .head-of-head .ensures) (c .if-not-keeps-rule-1 .ensures tt)

@@ -23,4 +23,3 @@ returns-then-not-has-links g c = search (needs, flaw-is)
 
 pub returns : need.returns
 returns g c = search (needs, flaw-is)
-

@@ -25,4 +25,3 @@ loop-i-again g c = search (needs, kids-more, kids-all, from-start)
 
 pub returns : need.returns
 returns g c = search (needs, kids-more, kids-all, from-start)
-

@@ -29,4 +29,3 @@ loop-i-again g c = search (needs, kid-more, kid-all, from-start)
 
 pub returns : need.returns
 returns g c = search (needs, kid-more, kid-all, from-start)
-

@@ -32,4 +32,3 @@ loop-i-again g c = search (needs, record-more, record-all, from-start)
 
 pub returns : need.returns
 returns g c = search (needs, record-more, record-all, from-start)
-
