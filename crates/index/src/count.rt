@@ -7,15 +7,14 @@ ghost use Rattle.tree.specs.Calls.{count-plan};
 ghost use Rattle.tree.specs.Plans.{bare, run, told};
 ghost use Rattle.tree.specs.Plans.Plan.{done};
 ghost use Rattle.tree.specs.Walks.{with-head};
+use crate::reading::LONGEST;
 use crate::reading::read_head;
+use crate::telling::tell;
 use keys::key::Key;
 use page::head::is_fit;
 use store::store::Store;
 use tree::refusal::Refusal;
 use tree::refusal::Refused;
-
-/// The longest block of any store.
-const LONGEST: usize = 512;
 
 /// What the head says.
 fn counted<S: Store, K: Key>(store: &mut S, page: &mut [u8]) -> Result<u32, Refusal>
@@ -44,11 +43,6 @@ pub fn count<S: Store, K: Key>(store: &mut S) -> Result<(u32, u64), Refused>
     ensures after { λ r. ⌜ S·Store .meaning (now (store .exit)) ≡ run (S·Store .meaning (now (store .entry))) (count-plan (K·Key .kind) (S·Store .meaning (now (store .entry)) .count) (S·Store .meaning (now (store .entry)) .size)) .1 ⌝ }
 {
     let before = store.tally();
-    match count_keys::<S, K>(store) {
-        Ok(keys) => Ok((keys, store.tally().wrapping_sub(before))),
-        Err(refusal) => Err(Refused {
-            refusal,
-            reads: store.tally().wrapping_sub(before),
-        }),
-    }
+    let answer = count_keys::<S, K>(store);
+    tell(store, before, answer)
 }

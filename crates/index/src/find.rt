@@ -7,8 +7,10 @@ ghost use Prim.Native.Nat.{_+_, _-_, _*_, _≤_};
 ghost use Rattle.tree.specs.Calls.{find-below, find-from, find-plan};
 ghost use Rattle.tree.specs.Plans.{bare, run, told};
 ghost use Rattle.tree.specs.Walks.{with-head};
+use crate::reading::LONGEST;
 use crate::reading::read_head;
 use crate::reading::read_node;
+use crate::telling::tell;
 use keys::key::Key;
 use page::head::is_fit;
 use page::node::child;
@@ -16,9 +18,6 @@ use page::node::record;
 use store::store::Store;
 use tree::refusal::Refusal;
 use tree::refusal::Refused;
-
-/// The longest block of any store.
-const LONGEST: usize = 512;
 
 /// Goes from the root to the leaf of a key.
 fn descend<S: Store, K: Key>(
@@ -74,11 +73,6 @@ pub fn find<S: Store, K: Key>(store: &mut S, key: &K) -> Result<(Option<u32>, u6
     ensures after { λ r. ⌜ S·Store .meaning (now (store .exit)) ≡ run (S·Store .meaning (now (store .entry))) (find-plan (K·Key .kind) (S·Store .meaning (now (store .entry)) .count) (S·Store .meaning (now (store .entry)) .size) (now (key .entry))) .1 ⌝ }
 {
     let before = store.tally();
-    match find_record(store, key) {
-        Ok(record) => Ok((record, store.tally().wrapping_sub(before))),
-        Err(refusal) => Err(Refused {
-            refusal,
-            reads: store.tally().wrapping_sub(before),
-        }),
-    }
+    let answer = find_record(store, key);
+    tell(store, before, answer)
 }

@@ -5,6 +5,8 @@ ghost use mathlib.Core.Path.{_≡_};
 ghost use Prim.Native.Nat.{_≤_, _<_};
 ghost use Rattle.tree.specs.Calls.{format-after, format-plan, formatted, laid, next-free};
 ghost use Rattle.tree.specs.Plans.{bare, run, told};
+use crate::reading::LONGEST;
+use crate::telling::tell;
 use keys::key::Key;
 use page::fill::fill_empty_leaf;
 use page::fill::fill_free;
@@ -15,9 +17,6 @@ use store::store::Store;
 use tree::head::Head;
 use tree::refusal::Refusal;
 use tree::refusal::Refused;
-
-/// The longest block of any store.
-const LONGEST: usize = 512;
 
 /// The free block after block b, or 0 after the last.
 fn next_free(block: u32, count: u32) -> u32
@@ -85,11 +84,6 @@ pub fn format<S: Store, K: Key>(store: &mut S, order: u8) -> Result<((), u64), R
     ensures after { λ r. ⌜ S·Store .meaning (now (store .exit)) ≡ format-after (K·Key .kind) (S·Store .meaning (now (store .entry))) order ⌝ }
 {
     let before = store.tally();
-    match format_blocks::<S, K>(store, order) {
-        Ok(()) => Ok(((), store.tally().wrapping_sub(before))),
-        Err(refusal) => Err(Refused {
-            refusal,
-            reads: store.tally().wrapping_sub(before),
-        }),
-    }
+    let answer = format_blocks::<S, K>(store, order);
+    tell(store, before, answer)
 }

@@ -4,3 +4,4 @@ pub mod count;
 pub mod find;
 pub mod format;
 mod reading;
+mod telling;

@@ -16,6 +16,9 @@ use tree::head::Head;
 use tree::refusal::Refusal;
 use tree::refusal::RefusalFromFault;
 
+/// The longest block of any store.
+pub(crate) const LONGEST: usize = 512;
+
 /// Reads a node into the page and examines it.
 pub(crate) fn read_node<S: Store, K: Key>(
     store: &mut S,

@@ -10,13 +10,10 @@ ghost use Rattle.tree.specs.Heads.{write-head};
 ghost use Rattle.tree.specs.Nodes.{write-free, write-node};
 use crate::fields::u16_bytes;
 use crate::fields::u32_bytes;
+use crate::node::FREE;
+use crate::node::LEAF;
 use keys::key::Key;
 use tree::head::Head;
-
-/// The tag of a leaf, and that of a free block.
-const LEAF: u8 = 1;
-
-const FREE: u8 = 3;
 
 /// Makes all bytes of the page 0.
 fn clear(page: &mut [u8])

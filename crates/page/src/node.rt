@@ -19,10 +19,12 @@ use keys::rows::rising;
 
 /// Where the entries begin.
 const ENTRIES: usize = 8;
-/// The tags of a leaf and of an inner node.
-const LEAF: u8 = 1;
+/// The tags of a leaf, an inner node and a free block.
+pub(crate) const LEAF: u8 = 1;
 
 const INNER: u8 = 2;
+
+pub(crate) const FREE: u8 = 3;
 
 /// The least entries of a node.
 pub fn least_entries(order: u8, top: bool, leaf: bool) -> u8

@@ -50,10 +50,9 @@ impl PlainStore {
         }
     }
 
-    /// Marks a block as one that cannot be read.
-    pub fn mark(&mut self, block: u32) -> Result<(), Fault>
-        ensures answer { λ r. ⌜ r ≡ answered (absent (plain (now (self .entry))) block) ⌝ }
-        ensures after { λ r. ⌜ plain (now (self .exit)) ≡ unless (absent (plain (now (self .entry))) block) (remarked (plain (now (self .entry))) block (Some (fault BadBlock block))) (plain (now (self .entry))) ⌝ }
+    /// Refuses a block that is not there.
+    fn check_block(&self, block: u32) -> Result<(), Fault>
+        ensures { λ r. ⌜ r ≡ answered (absent (plain (now (self .entry))) block) ⌝ }
     {
         if block >= self.count {
             return Err(Fault {
@@ -62,6 +61,15 @@ impl PlainStore {
                 depth: 0,
             });
         }
+        Ok(())
+    }
+
+    /// Marks a block as one that cannot be read.
+    pub fn mark(&mut self, block: u32) -> Result<(), Fault>
+        ensures answer { λ r. ⌜ r ≡ answered (absent (plain (now (self .entry))) block) ⌝ }
+        ensures after { λ r. ⌜ plain (now (self .exit)) ≡ unless (absent (plain (now (self .entry))) block) (remarked (plain (now (self .entry))) block (Some (fault BadBlock block))) (plain (now (self .entry))) ⌝ }
+    {
+        self.check_block(block)?;
         self.put_mark(block, 1);
         Ok(())
     }
@@ -71,13 +79,7 @@ impl PlainStore {
         ensures answer { λ r. ⌜ r ≡ answered (absent (plain (now (self .entry))) block) ⌝ }
         ensures after { λ r. ⌜ plain (now (self .exit)) ≡ unless (absent (plain (now (self .entry))) block) (remarked (plain (now (self .entry))) block None) (plain (now (self .entry))) ⌝ }
     {
-        if block >= self.count {
-            return Err(Fault {
-                cause: Cause::NoSuchBlock,
-                block,
-                depth: 0,
-            });
-        }
+        self.check_block(block)?;
         self.put_mark(block, 0);
         Ok(())
     }
@@ -87,13 +89,7 @@ impl PlainStore {
         ensures answer { λ r. ⌜ r ≡ answered (outside (plain (now (self .entry))) block at (length (now (part .entry)))) ⌝ }
         ensures after { λ r. ⌜ plain (now (self .exit)) ≡ unless (outside (plain (now (self .entry))) block at (length (now (part .entry)))) (patched (plain (now (self .entry))) block at (now (part .entry))) (plain (now (self .entry))) ⌝ }
     {
-        if block >= self.count {
-            return Err(Fault {
-                cause: Cause::NoSuchBlock,
-                block,
-                depth: 0,
-            });
-        }
+        self.check_block(block)?;
         let size = self.size as usize;
         if at > size || part.len() > size - at {
             return Err(Fault {
