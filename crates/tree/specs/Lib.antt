@@ -6,3 +6,7 @@ pub mod Nodes
 pub mod Heads
 pub mod Walks
 pub mod Calls
+pub mod Inserts
+pub mod Removes
+pub mod Ranges
+pub mod Cases
