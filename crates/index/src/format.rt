@@ -1,8 +1,10 @@
 //! Format: an empty index on all blocks of a store.
 
+ghost use Rattle.std.specs.declared.result.Result.the-variants.{Ok};
+ghost use Rattle.tree.specs.SoundCalls.{Empty};
 ghost use lib.ListN.{length};
 ghost use mathlib.Core.Path.{_≡_};
-ghost use Prim.Native.Nat.{_≤_, _<_};
+ghost use Prim.Native.Nat.{_<_, _≤_, ℕ};
 ghost use Rattle.tree.specs.Calls.{format-after, format-plan, formatted, laid, next-free};
 ghost use Rattle.tree.specs.Plans.{bare, run, told};
 use crate::reading::LONGEST;
@@ -78,12 +80,21 @@ fn format_blocks<S: Store, K: Key>(store: &mut S, order: u8) -> Result<(), Refus
     Ok(())
 }
 
-/// Makes an empty index of nodes of at most `order` entries. It reads nothing.
-pub fn format<S: Store, K: Key>(store: &mut S, order: u8) -> Result<((), u64), Refused>
+/// The same with the reads made.
+fn format_told<S: Store, K: Key>(store: &mut S, order: u8) -> Result<((), u64), Refused>
     ensures answer { λ r. ⌜ r ≡ told (S·Store .meaning (now (store .entry)) .tally) (run (S·Store .meaning (now (store .entry))) (format-plan (K·Key .kind) (S·Store .meaning (now (store .entry)) .count) (S·Store .meaning (now (store .entry)) .size) order)) ⌝ }
     ensures after { λ r. ⌜ S·Store .meaning (now (store .exit)) ≡ format-after (K·Key .kind) (S·Store .meaning (now (store .entry))) order ⌝ }
 {
     let before = store.tally();
     let answer = format_blocks::<S, K>(store, order);
     tell(store, before, answer)
+}
+
+/// Makes an empty index of nodes of at most `order` entries. It reads nothing.
+pub fn format<S: Store, K: Key>(store: &mut S, order: u8) -> Result<((), u64), Refused>
+    ensures answer { λ r. ⌜ r ≡ told (S·Store .meaning (now (store .entry)) .tally) (run (S·Store .meaning (now (store .entry))) (format-plan (K·Key .kind) (S·Store .meaning (now (store .entry)) .count) (S·Store .meaning (now (store .entry)) .size) order)) ⌝ }
+    ensures after { λ r. ⌜ S·Store .meaning (now (store .exit)) ≡ format-after (K·Key .kind) (S·Store .meaning (now (store .entry))) order ⌝ }
+    ensures sound { λ r. ⌜ ((i : ℕ) → r ≡ Ok (tt, i) → Empty (K·Key .kind) (S·Store .meaning (now (store .exit)))) ⌝ }
+{
+    format_told::<S, K>(store, order)
 }

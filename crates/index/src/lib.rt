@@ -3,5 +3,7 @@
 pub mod count;
 pub mod find;
 pub mod format;
+mod leaf;
+pub mod range;
 mod reading;
 mod telling;

@@ -2,6 +2,7 @@
 
 pub mod fields;
 pub mod fill;
+pub mod gather;
 pub mod head;
 pub mod node;
 pub mod rows;

@@ -18,7 +18,7 @@ use keys::key::Key;
 use keys::rows::rising;
 
 /// Where the entries begin.
-const ENTRIES: usize = 8;
+pub(crate) const ENTRIES: usize = 8;
 /// The tags of a leaf, an inner node and a free block.
 pub(crate) const LEAF: u8 = 1;
 

@@ -12,7 +12,7 @@ use keys::key::Key;
 pub const NUMBER: usize = 4;
 
 /// The key of entry i.
-fn key_at<K: Key>(rows: &[u8], i: usize) -> Option<K>
+pub(crate) fn key_at<K: Key>(rows: &[u8], i: usize) -> Option<K>
     requires { ⌜ (i + 1) * (K·Key .kind .width + 4) ≤ length (now rows) ⌝ }
     ensures { λ r. ⌜ r ≡ key-of (K·Key .kind) (row (K·Key .kind) i (now (rows .entry))) ⌝ }
 {

@@ -15,10 +15,11 @@ pub enum Verb {
     Tally,
     Format,
     Find,
+    Range,
     Count,
 }
 
-const VERBS: [Verb; 13] = [
+const VERBS: [Verb; 14] = [
     Verb::Card,
     Verb::Open,
     Verb::Kind,
@@ -31,6 +32,7 @@ const VERBS: [Verb; 13] = [
     Verb::Tally,
     Verb::Format,
     Verb::Find,
+    Verb::Range,
     Verb::Count,
 ];
 
@@ -49,6 +51,7 @@ impl Verb {
             Verb::Tally => b"tally",
             Verb::Format => b"format",
             Verb::Find => b"find",
+            Verb::Range => b"range",
             Verb::Count => b"count",
         }
     }
@@ -76,6 +79,7 @@ pub enum Command<'a> {
     Tally,
     Format(&'a [u8]),
     Find(&'a [u8]),
+    Range(&'a [u8], &'a [u8], &'a [u8]),
     Count,
 }
 
@@ -91,6 +95,7 @@ pub fn command_of<'a>(verb: Verb, words: &[&'a [u8]]) -> Option<Command<'a>> {
         (Verb::Tally, []) => Some(Command::Tally),
         (Verb::Format, [order]) => Some(Command::Format(order)),
         (Verb::Find, [key]) => Some(Command::Find(key)),
+        (Verb::Range, [lo, hi, length]) => Some(Command::Range(lo, hi, length)),
         (Verb::Count, []) => Some(Command::Count),
         _ => None,
     }

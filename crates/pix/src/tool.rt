@@ -19,6 +19,7 @@ use crate::kind::KeyKind;
 use crate::lookups::count;
 use crate::lookups::find;
 use crate::lookups::format;
+use crate::lookups::range;
 use crate::making::named_card;
 use crate::making::opened_card;
 use crate::words::number;
@@ -122,6 +123,11 @@ fn perform(
             KeyKind::Lot => find::<Lot>(rt, card, word),
             KeyKind::Moment => find::<Moment>(rt, card, word),
             KeyKind::Name => find::<Name>(rt, card, word),
+        },
+        Command::Range(lo, hi, length) => match kind {
+            KeyKind::Lot => range::<Lot>(rt, card, lo, hi, length),
+            KeyKind::Moment => range::<Moment>(rt, card, lo, hi, length),
+            KeyKind::Name => range::<Name>(rt, card, lo, hi, length),
         },
         Command::Count => match kind {
             KeyKind::Lot => count::<Lot>(rt, card),

@@ -6,7 +6,7 @@ ghost use lib.ListN.{length};
 ghost use Rattle.store.specs.Bytes.{Bytes, overlaid};
 
 /// Does nothing: the contract is what it is called for, that a slice of bytes holds bytes.
-pub(crate) fn are_bytes(slice: &[u8])
+pub fn are_bytes(slice: &[u8])
     ensures { λ _. ⌜ Bytes (now (slice .entry)) ⌝ }
 {
     // a read of one element is what makes the type of all of them known to the proof
@@ -16,7 +16,7 @@ pub(crate) fn are_bytes(slice: &[u8])
 }
 
 /// Puts `part` in the place of what stands from `at` on.
-pub(crate) fn overlay(slice: &mut [u8], at: usize, part: &[u8])
+pub fn overlay(slice: &mut [u8], at: usize, part: &[u8])
     requires { ⌜ at + length (now part) ≤ length (now slice) ⌝ }
     ensures { λ _. ⌜ now (slice .exit) ≡ overlaid (now (slice .entry)) at (now (part .entry)) ⌝ }
 {

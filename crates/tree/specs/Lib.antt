@@ -10,3 +10,7 @@ pub mod Inserts
 pub mod Removes
 pub mod Ranges
 pub mod Cases
+pub mod Trees
+pub mod Sound
+pub mod Laws
+pub mod SoundCalls

@@ -5,17 +5,25 @@
 --   scan κ lo hi cap es        the entries from lo to hi, at most cap of them
 --   follow                     a leaf, and then the next where the range goes on
 --   chase                      leaf after leaf, at most fuel of them
+--   range-below κ n lo hi cap h       from the root on, by what the head says
 --   range-plan κ n size lo hi cap     the whole call: the entries, and whether more remain
+--   standing out               the entries that stand in the buffer when a range has ended
+--   range-told t out           what a range answers that began at tally t
 use mathlib.Core.Bool.{Bool, true, false, cond}
 use mathlib.Core.List.{List, [], _∷_, _++_}
 use Prim.Native.Nat.{ℕ, zero, suc, _-_}
 use lib.Dec.{eqb}
+use lib.ListN.{length}
 use Rattle.keys.specs.Kind.{Kind}
 use Rattle.std.specs.declared.option.Option.{Option}
 use Rattle.std.specs.declared.option.Option.the-variants.{None, Some}
+use Rattle.std.specs.declared.result.Result.{Result}
+use Rattle.std.specs.declared.result.Result.the-variants.{Ok, Err}
+use Rattle.tree.specs.declared.head.Head.{Head}
+use Rattle.tree.specs.declared.refusal.RangeRefused.{RangeRefused}
 use Rattle.tree.specs.declared.refusal.Refusal.the-variants.{Broken, Crossed}
 use Rattle.tree.specs.Nodes.{Node, least}
-use Rattle.tree.specs.Plans.{Plan}
+use Rattle.tree.specs.Plans.{Outcome, Plan, Stop, rise}
 use Rattle.tree.specs.Plans.Plan.{done, refuse}
 use Rattle.tree.specs.Walks.{walk, when-fit, with-head, with-node}
 
@@ -51,9 +59,17 @@ module _ {K : Type 0} (κ : Kind K) where
   chase n m lo hi zero cap out b = refuse out (Broken 8 b)
   chase n m lo hi (suc fuel) cap out b = with-node κ n out m true (least m false true) b (λ d. follow lo hi cap out d (chase n m lo hi fuel))
 
+  abbrev pub range-below : ℕ → K → K → ℕ → Head → Ranged
+  range-below n lo hi cap h =
+      walk κ n [] (h .order) lo (h .levels - 1) true (h .root) (λ f. follow lo hi cap [] (f .node) (chase n (h .order) lo hi (n - 2)))
+
   abbrev pub range-plan : ℕ → ℕ → K → K → ℕ → Ranged
-  range-plan n size lo hi cap =
-      when-fit n size []
-      (cond (κ .less hi lo) (refuse [] Crossed)
-      (with-head κ n size [] (λ h. walk κ n [] (h .order) lo (h .levels - 1) true (h .root)
-      (λ f. follow lo hi cap [] (f .node) (chase n (h .order) lo hi (n - 2))))))
+  range-plan n size lo hi cap = when-fit n size [] (cond (κ .less hi lo) (refuse [] Crossed) (with-head κ n size [] (range-below n lo hi cap)))
+
+abbrev pub standing : {K : Type 0} → Result (List (K × ℕ) × Bool) (Stop (List (K × ℕ))) → List (K × ℕ)
+standing (Ok a) = a .0
+standing (Err s) = s .left
+
+abbrev pub range-told : {K : Type 0} → ℕ → Outcome (List (K × ℕ)) (List (K × ℕ) × Bool) → Result ((ℕ × Bool) × ℕ) RangeRefused
+range-told t (Ok a, m) = Ok ((length (a .0), a .1), rise t (m .tally))
+range-told t (Err s, m) = Err (record { refusal = s .why; entries = length (s .left); reads = rise t (m .tally) })

@@ -67,3 +67,11 @@ pub struct Refused {
     pub refusal: Refusal,
     pub reads: u64,
 }
+
+/// A refusal of a range, with the entries that stand in the buffer and the reads that were made before it.
+#[derive(Clone, Copy)]
+pub struct RangeRefused {
+    pub refusal: Refusal,
+    pub entries: usize,
+    pub reads: u64,
+}
