@@ -3,7 +3,7 @@ use mathlib.Core.Bool.{Bool, true, false, cond}
 use mathlib.Core.List.{List, [], _∷_, _++_, map}
 use mathlib.Core.Path.{_≡_, refl, sym, _∙_, ap, subst}
 use native.Mathlib.Omega.{arith}
-use Prim.Native.Nat.{ℕ, zero, suc, _+_, _-_, _%_, _^_, _<_}
+use Prim.Native.Nat.{ℕ, zero, suc, _+_, _-_, _*_, _%_, _^_, _<_, _≤_}
 use lib.Dec.{leb, ltb}
 use lib.ListN.{length}
 use Rattle.std.proofs.shelf.Lists.{append-nil}
@@ -26,7 +26,7 @@ use Rattle.tree.specs.SoundCalls.{Counts, Ends, Finds, way}
 use Rattle.tree.specs.SoundCalls.Ends.{answered, refused}
 use Rattle.tree.specs.Laws.{Clear, Ended, Exactly, answer, tallied-by}
 use Rattle.tree.specs.Laws.Ended.{stopped, whole}
-use Rattle.tree.specs.Nodes.{is-block, kids-fit, numbers-fit}
+use Rattle.tree.specs.Nodes.{is-block, kids-fit, least-kids, least-leaf, numbers-fit}
 use Rattle.tree.specs.Plans.{Plan, Stop, reading, rise, run, told}
 use Rattle.tree.specs.Plans.Plan.{done, refuse}
 use Rattle.tree.specs.Sound.{Sound, map-of}
@@ -35,6 +35,7 @@ use Rattle.tree.specs.Walks.{Found, is-fit, on-head, walk, when-fit, with-head
 use Rattle.tree.proofs.Laws.{exactly, kept}
 use Rattle.tree.proofs.Lookups.{found-right, kid-has, leaves-rise}
 use Rattle.tree.proofs.Shown.{all-map, head-seen, sound-shows}
+use Rattle.tree.proofs.Prices.{carried-most, few-levels}
 use Rattle.tree.proofs.Sizes.{many-keys}
 use Rattle.tree.proofs.Ways.{done-own, found-in, head-own, trail-length, walk-answers, walk-own, walk-reads}
 
@@ -144,12 +145,17 @@ pub find-sound : {K : Type 0} (κ : Kind K) → Lawful κ → (m : Meaning) → 
 find-sound κ L m t S k =
     let n : length (way S k) ≡ S .head .levels + 1 = ap suc (trail-length κ (S .height) k (S .tree)) ∙ (let e = S .levels in omega arith) in
     let few = S .levels-bounds .1 in
+    let ends = ends-by m (find-plan κ (m .count) (m .size) k) (way S k) (lookup κ k (map-of S)) t (omega arith) (way-inside S L k) (find-reads S k) (find-answers S L k) in
     record {
       reads = find-reads S k;
       many = n;
-      ends = ends-by m (find-plan κ (m .count) (m .size) k) (way S k) (lookup κ k (map-of S)) t (omega arith) (way-inside S L k) (find-reads S k) (find-answers S L k);
+      ends = ends;
       ordered = leaves-rise κ L k (S .height) true (S .tree) (S .keys-rise) (S .parted);
       shallow = many-keys S;
+      four = λ order keys.
+        let low = few-levels (S .head .levels) (length (map-of S)) (subst (λ (o : ℕ). 2 ≤ S .head .levels → 2 * (least-leaf o * least-kids o ^ (S .head .levels - 2)) ≤ length (map-of S)) order (many-keys S)) keys in
+        let most = carried-most (m .mark) (way S k) (lookup κ k (map-of S)) _ ends in
+        omega arith;
     }
 
 -- on every file

@@ -85,11 +85,11 @@ module _ {P A : Type 0} where
   number-of (Ok a) = 0
   number-of (Err s) = numbered (s .why)
 
-  other : (p : P) (r : Refusal) → (numbered r ≡ 4 → ⊥) → Unreadably {P = P} {A = A} (Err (record { left = p; why = r })) → ⊥
+  pub other : (p : P) (r : Refusal) → (numbered r ≡ 4 → ⊥) → Unreadably {P = P} {A = A} (Err (record { left = p; why = r })) → ⊥
   other p r o u = o (ap number-of (u .2))
 
 module _ {P A : Type 0} (c : ℕ → List ℕ) where
-  seen-own : {D : Type 0} (p : P) (b : ℕ) (go : D → Plan P A) → ((d : D) → Unreadably (answer c (go d)) → ⊥) → (s : Seen D) → Unreadably (answer c (on-seen p b go s)) → ⊥
+  pub seen-own : {D : Type 0} (p : P) (b : ℕ) (go : D → Plan P A) → ((d : D) → Unreadably (answer c (go d)) → ⊥) → (s : Seen D) → Unreadably (answer c (on-seen p b go s)) → ⊥
   unfolding answer
   seen-own p b go o (wrong r) u = other {A = A} p (Broken r b) (λ e. omega arith) u
   seen-own p b go o (right d) u = o d u
