@@ -10,6 +10,7 @@ ghost use Rattle.index.specs.Rangings.{RangeEnd};
 ghost use Rattle.store.specs.Bytes.{overlaid};
 ghost use Rattle.tree.specs.Entries.{write-entries};
 ghost use Rattle.tree.specs.Fields.{u8-at};
+ghost use Rattle.tree.specs.Laws.{Exactly, Kept};
 ghost use Rattle.tree.specs.Nodes.{Node};
 ghost use Rattle.tree.specs.Plans.{run};
 ghost use Rattle.tree.specs.Walks.{with-head};
@@ -101,9 +102,8 @@ fn range_entries<S: Store, K: Key>(
     range_below::<S, K>(store, lo, hi, &mut page[0..size as usize], buffer)
 }
 
-/// Fills the buffer with the entries from `lo` to `hi`, both included, as far as they fit, and answers how many there are and
-/// whether more remain, with the reads made.
-pub fn range<S: Store, K: Key>(
+/// The same with the reads made.
+fn range_told<S: Store, K: Key>(
     store: &mut S,
     lo: &K,
     hi: &K,
@@ -124,4 +124,21 @@ pub fn range<S: Store, K: Key>(
             reads,
         }),
     }
+}
+
+/// Fills the buffer with the entries from `lo` to `hi`, both included, as far as they fit, and answers how many there are and
+/// whether more remain, with the reads made.
+pub fn range<S: Store, K: Key>(
+    store: &mut S,
+    lo: &K,
+    hi: &K,
+    buffer: &mut [u8],
+) -> Result<((usize, bool), u64), RangeRefused>
+    ensures answer { λ r. ⌜ r ≡ range-told (S·Store .meaning (now (store .entry)) .tally) (run (S·Store .meaning (now (store .entry))) (range-plan (K·Key .kind) (S·Store .meaning (now (store .entry)) .count) (S·Store .meaning (now (store .entry)) .size) (now (lo .entry)) (now (hi .entry)) (length (now (buffer .entry)) / (K·Key .kind .width + 4)))) ⌝ }
+    ensures buffer { λ _. ⌜ now (buffer .exit) ≡ overlaid (now (buffer .entry)) 0 (write-entries (K·Key .kind) (standing (run (S·Store .meaning (now (store .entry))) (range-plan (K·Key .kind) (S·Store .meaning (now (store .entry)) .count) (S·Store .meaning (now (store .entry)) .size) (now (lo .entry)) (now (hi .entry)) (length (now (buffer .entry)) / (K·Key .kind .width + 4))) .0))) ⌝ }
+    ensures after { λ _. ⌜ S·Store .meaning (now (store .exit)) ≡ run (S·Store .meaning (now (store .entry))) (range-plan (K·Key .kind) (S·Store .meaning (now (store .entry)) .count) (S·Store .meaning (now (store .entry)) .size) (now (lo .entry)) (now (hi .entry)) (length (now (buffer .entry)) / (K·Key .kind .width + 4))) .1 ⌝ }
+    ensures course { λ _. ⌜ Kept (S·Store .meaning (now (store .entry))) (range-plan (K·Key .kind) (S·Store .meaning (now (store .entry)) .count) (S·Store .meaning (now (store .entry)) .size) (now (lo .entry)) (now (hi .entry)) (length (now (buffer .entry)) / (K·Key .kind .width + 4))) ⌝ }
+    ensures unreadable { λ _. ⌜ Exactly (S·Store .meaning (now (store .entry))) (range-plan (K·Key .kind) (S·Store .meaning (now (store .entry)) .count) (S·Store .meaning (now (store .entry)) .size) (now (lo .entry)) (now (hi .entry)) (length (now (buffer .entry)) / (K·Key .kind .width + 4))) ⌝ }
+{
+    range_told(store, lo, hi, buffer)
 }

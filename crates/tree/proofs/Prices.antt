@@ -24,9 +24,9 @@ carried-most mark bs a r (refused before b behind f p u k e) =
 pub few-levels : (levels n : ℕ) → (2 ≤ levels → 2 * (23 * 23 ^ (levels - 2)) ≤ n) → n < 24334 → levels ≤ 3
 few-levels levels n h k = ⊎-elim
     (λ (l : 3 < levels).
-      let two : 2 ≤ levels - 2 = omega arith in
-      let p : 23 ^ 2 ≤ 23 ^ (levels - 2) = pow-le-pow-right {n = 23} (omega arith) two in
-      let q = h (omega arith) in
-      omega arith)
+    let two : 2 ≤ levels - 2 = omega arith in
+    let p : 23 ^ 2 ≤ 23 ^ (levels - 2) = pow-le-pow-right {n = 23} (omega arith) two in
+    let q = h (omega arith) in
+    omega arith)
     (λ (l : levels ≤ 3). l)
     (cases-lt 3 levels)

@@ -51,7 +51,7 @@ module _ {K : Type 0} (κ : Kind K) (c : ℕ → List ℕ) (n : ℕ) (lo hi : K)
       by-order false =
           head-own c κ n size [] (range-below κ n lo hi cap)
           (λ h. walk-own c κ n [] (h .order) lo (h .levels - 1) true (h .root) _
-            (λ f. after-own [] (scan κ lo hi cap (f .node .entries)) (f .node .link) (chase κ n (h .order) lo hi (n - 2)) (chase-own (h .order) (n - 2)) (scan κ lo hi cap (f .node .entries) .end)))
+          (λ f. after-own [] (scan κ lo hi cap (f .node .entries)) (f .node .link) (chase κ n (h .order) lo hi (n - 2)) (chase-own (h .order) (n - 2)) (scan κ lo hi cap (f .node .entries) .end)))
 
 pub range-exactly : {K : Type 0} (κ : Kind K) (m : Meaning) (lo hi : K) (cap : ℕ) → Exactly m (range-plan κ (m .count) (m .size) lo hi cap)
 range-exactly κ m lo hi cap = exactly m (range-plan κ (m .count) (m .size) lo hi cap) (range-own κ (m .contents) (m .count) lo hi (m .size) cap)

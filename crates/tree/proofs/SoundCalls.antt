@@ -153,9 +153,9 @@ find-sound κ L m t S k =
       ordered = leaves-rise κ L k (S .height) true (S .tree) (S .keys-rise) (S .parted);
       shallow = many-keys S;
       four = λ order keys.
-        let low = few-levels (S .head .levels) (length (map-of S)) (subst (λ (o : ℕ). 2 ≤ S .head .levels → 2 * (least-leaf o * least-kids o ^ (S .head .levels - 2)) ≤ length (map-of S)) order (many-keys S)) keys in
-        let most = carried-most (m .mark) (way S k) (lookup κ k (map-of S)) _ ends in
-        omega arith;
+          let low = few-levels (S .head .levels) (length (map-of S)) (subst (λ (o : ℕ). 2 ≤ S .head .levels → 2 * (least-leaf o * least-kids o ^ (S .head .levels - 2)) ≤ length (map-of S)) order (many-keys S)) keys in
+          let most = carried-most (m .mark) (way S k) (lookup κ k (map-of S)) _ ends in
+          omega arith;
     }
 
 -- on every file
