@@ -4,7 +4,7 @@ pub mod Ways
 pub mod Shown
 pub mod Lookups
 pub mod Sizes
-pub mod Prices
+pub mod FewReads
 pub mod SoundCalls
 pub mod Formats
 pub mod Ranges

@@ -35,7 +35,7 @@ use Rattle.tree.specs.Walks.{Found, is-fit, on-head, walk, when-fit, with-head
 use Rattle.tree.proofs.Laws.{exactly, kept}
 use Rattle.tree.proofs.Lookups.{found-right, kid-has, leaves-rise}
 use Rattle.tree.proofs.Shown.{all-map, head-seen, sound-shows}
-use Rattle.tree.proofs.Prices.{carried-most, few-levels}
+use Rattle.tree.proofs.FewReads.{carried-most, few-levels}
 use Rattle.tree.proofs.Sizes.{many-keys}
 use Rattle.tree.proofs.Ways.{done-own, found-in, head-own, trail-length, walk-answers, walk-own, walk-reads}
 
