@@ -1,4 +1,5 @@
 //! The calls of the index, over any store and any key kind.
+#![tactic(auto)]
 
 pub mod count;
 pub mod find;

@@ -1,4 +1,6 @@
 //! Keys of an index: what a kind of keys is, and the three kinds.
+#![tactic(auto)]
+
 mod bytes;
 pub mod key;
 pub mod lot;

@@ -1,4 +1,6 @@
 //! Examples of the keys: each kind with its edges, what is refused, and keys in rows.
+#![tactic(auto)]
+
 #[cfg(test)]
 mod tests {
     use keys::key::{Key, WrongLength};

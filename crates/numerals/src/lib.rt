@@ -1,4 +1,5 @@
 //! Numbers and bytes as text.
+#![tactic(auto)]
 
 pub mod decimal;
 pub mod hex;

@@ -1,4 +1,5 @@
 //! One block's bytes: the head, a node, a free block.
+#![tactic(auto)]
 
 pub mod fields;
 pub mod fill;

@@ -1,4 +1,5 @@
 //! The command tool: reads commands from standard input, one a line, and prints what came of each.
+#![tactic(auto)]
 
 mod blocks;
 mod card;

@@ -1,4 +1,5 @@
 //! Stores of numbered blocks: what a store is, and two that keep blocks.
+#![tactic(auto)]
 
 pub mod bench;
 pub mod bytes;

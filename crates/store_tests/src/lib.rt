@@ -1,4 +1,5 @@
 //! Examples of the stores and layers at work.
+#![tactic(auto)]
 
 #[cfg(test)]
 mod tests;

@@ -1,4 +1,5 @@
 //! What an index file and the calls on it mean.
+#![tactic(auto)]
 
 pub mod cases;
 pub mod head;

@@ -1,4 +1,5 @@
 //! The calls that change an index, over any store and any key kind.
+#![tactic(auto)]
 
 pub mod batch;
 pub mod free;

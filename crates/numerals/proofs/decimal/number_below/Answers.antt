@@ -3,21 +3,21 @@ use Rattle.numerals.specs.Decimals.{below, is_digit}
 use Rattle.numerals.proofs.DecimalSteps.{number_empty, number_start, number_more, number_stop, number_end, too_large}
 use Rattle.numerals.proofs.decimal.number_below.Goals as goal
 
-pub returns-then-is-empty : goal.returns-then-is-empty
-returns-then-is-empty c = search (rules, number_empty)
+pub returns-then-is_empty : goal.returns-then-is_empty
+returns-then-is_empty c = search (rules, number_empty)
 
 pub loop-digit-init : goal.loop-digit-init
 loop-digit-init c = search (rules, number_start)
 
-pub returns-then-not-is-digit : goal.returns-then-not-is-digit
-returns-then-not-is-digit c = search (rules, number_stop)
+pub returns-then-not-is_digit : goal.returns-then-not-is_digit
+returns-then-not-is_digit c = search (rules, number_stop)
 
-pub returns-in-default : goal.returns-in-default
-returns-in-default c =
+pub returns-in_default : goal.returns-in_default
+returns-in_default c =
     let cs = c.args.digits.now in
     let n = c.loop-digit.number in
     let i = c.loop-digit.digit-index in
-    let large : 2 ^ 64 ≤ n * 10 + (get_or cs i 0 - 48) = omega (arith, c.in-default.ensures) in
+    let large : 2 ^ 64 ≤ n * 10 + (get_or cs i 0 - 48) = omega (arith, c.in_default.ensures) in
     let digit : is_digit (get_or cs i 0) ≡ true = search rules in
     record {
       value =

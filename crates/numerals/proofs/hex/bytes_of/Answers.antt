@@ -11,8 +11,8 @@ pub loop-i-init : goal.loop-i-init
 loop-i-init c =
     nothing_before (hex_bytes c.args.digits.now) ∙ ap (λ (xs : List ℕ). after xs (hex_bytes c.args.digits.now)) (sym c.new-bytes.ensures.items)
 
-pub returns-in-default : goal.returns-in-default
-returns-in-default c = none_here c.args.digits.now (vec_items c.loop-i.bytes) c.loop-i.i (omega arith) c.loop-i.invariant c.in-default.ensures
+pub returns-in_default : goal.returns-in_default
+returns-in_default c = none_here c.args.digits.now (vec_items c.loop-i.bytes) c.loop-i.i (omega arith) c.loop-i.invariant c.in_default.ensures
 
 pub loop-i-preserved : goal.loop-i-preserved
 loop-i-preserved c =
@@ -20,7 +20,7 @@ loop-i-preserved c =
     let xs = vec_items c.loop-i.bytes in
     let i = c.loop-i.i in
     let b = c.in-Some.byte in
-    let p : vec_items c.push.new.self ≡ xs ++ (b ∷ []) = pushed (b ∷ []) refl c.in-ok-push.was c.push.ensures.items in
+    let p : vec_items c.push.new.self ≡ xs ++ (b ∷ []) = pushed (b ∷ []) refl c.in_ok-push.was c.push.ensures.items in
     one_more cs xs i b (omega arith) c.loop-i.invariant c.in-Some.ensures
     ∙ ap (λ (w : List ℕ). after w (hex_bytes (drop (2 * (i + 1)) cs))) (sym p)
 

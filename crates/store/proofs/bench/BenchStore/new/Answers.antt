@@ -2,5 +2,5 @@ use Rattle.std.proofs.Common.{refl}
 use Rattle.store.specs.Blocks.{zero_bytes}
 use Rattle.store.proofs.bench.BenchStore.new.Goals as goal
 
-pub invariant-of-result : goal.invariant-of-result
-invariant-of-result c = (refl, (zero_bytes 8192, tt))
+pub invariant_of-result : goal.invariant_of-result
+invariant_of-result c = (refl, (zero_bytes 8192, tt))

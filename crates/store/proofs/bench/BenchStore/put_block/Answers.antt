@@ -4,8 +4,8 @@ use Rattle.store.specs.Blocks.{overlaid_bytes, overlaid_length}
 use Rattle.store.proofs.Views.{kept_written}
 use Rattle.store.proofs.bench.BenchStore.put_block.Goals as goal
 
-pub invariant-of-self : goal.invariant-of-self
-invariant-of-self c =
+pub invariant_of-self : goal.invariant_of-self
+invariant_of-self c =
     let s = c.args.self.now in
     let xs = s.blocks.bytes in
     let at = c.args.block * 128 in

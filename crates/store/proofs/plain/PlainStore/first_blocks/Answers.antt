@@ -4,8 +4,8 @@ use Rattle.store.specs.Blocks.{blocks_gathered}
 use Rattle.store.proofs.plain.PlainStore.first_blocks.Goals as goal
 
 -- the blocks lie within the bytes
-pub slice-bounds-result-end : goal.slice-bounds-result-end
-slice-bounds-result-end c =
+pub slice_bounds-result-end : goal.slice_bounds-result-end
+slice_bounds-result-end c =
     let s = c.args.self.now in
     let m = mul-le c.args.count s.size s.count s.size c.requires (omega arith) in
     search rules

@@ -3,8 +3,8 @@ use Rattle.std.proofs.lemmas.Nat.{mul-le, div-add-mod'}
 use Rattle.store.proofs.plain.PlainStore.new.Goals as goal
 
 -- the blocks lie within the bytes
-pub invariant-of-result-2 : goal.invariant-of-result-2
-invariant-of-result-2 c =
+pub invariant_of-result-2 : goal.invariant_of-result-2
+invariant_of-result-2 c =
     let n = c.args.size in
     let q = c.args.bytes.len / n in
     let h : c.min-count.result ≤ q = search rules in

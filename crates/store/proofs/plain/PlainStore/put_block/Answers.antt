@@ -9,6 +9,6 @@ pub returns : goal.returns
 returns c =
     let s = c.args.self.now in
     let l = block_length c.args.block s.count s.size (vec_items s.bytes) c.requires.0 (omega arith) in
-    c.put-mark.ensures
+    c.put_mark.ensures
     ∙ ap (λ (m : Meaning). remarked m c.args.block (marked_by c.args.mark c.args.block))
-    (c.put-part.ensures ∙ patched_whole (plain s) c.args.block c.args.bytes.now (l ∙ sym c.requires.1))
+    (c.put_part.ensures ∙ patched_whole (plain s) c.args.block c.args.bytes.now (l ∙ sym c.requires.1))

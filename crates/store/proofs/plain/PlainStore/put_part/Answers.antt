@@ -11,12 +11,12 @@ overlay-requires c =
     let f = block_fits c.args.block s.count s.size s.bytes.len c.requires.0 s.room in
     search rules
 
-pub invariant-of-self : goal.invariant-of-self
-invariant-of-self c =
+pub invariant_of-self : goal.invariant_of-self
+invariant_of-self c =
     let s = c.args.self.now in
     let b = c.args.block in
     let ys = c.args.part.now in
-    let e = patched_items s b c.args.at c.deref-mut.result.now ys c.overlay.new.slice c.requires.0 c.requires.1 c.deref-mut.ensures.value c.overlay.ensures in
+    let e = patched_items s b c.args.at c.deref_mut.result.now ys c.overlay.new.slice c.requires.0 c.requires.1 c.deref_mut.ensures.value c.overlay.ensures in
     let f = block_fits b s.count s.size s.bytes.len c.requires.0 s.room in
     let bytes = overlaid_bytes (vec_items s.bytes) (b * s.size + c.args.at) ys (omega (arith, s.bytes.ok.0)) s.filled c.are_bytes.ensures in
     (s.few, (s.short, (s.room, (s.marked, (subst Bytes (sym e) bytes, tt)))))
@@ -26,5 +26,5 @@ returns c =
     let s = c.args.self.now in
     let b = c.args.block in
     let ys = c.args.part.now in
-    let e = patched_items s b c.args.at c.deref-mut.result.now ys c.overlay.new.slice c.requires.0 c.requires.1 c.deref-mut.ensures.value c.overlay.ensures in
+    let e = patched_items s b c.args.at c.deref_mut.result.now ys c.overlay.new.slice c.requires.0 c.requires.1 c.deref_mut.ensures.value c.overlay.ensures in
     view_patched s.count s.size s.tally b c.args.at (vec_items s.bytes) (vec_items s.marks) ys _ c.requires.0 (omega arith) c.requires.1 e
