@@ -9,10 +9,11 @@ invariant_of-self c =
     let s = c.args.self.now in
     let xs = s.blocks.bytes in
     let at = c.args.block * 128 in
-    let ys = c.args.bytes.now in (
-      ap length c.overlay.ensures ∙ (overlaid_length xs at ys (omega (arith, s.whole)) ∙ s.whole),
-      (subst Bytes (sym c.overlay.ensures) (overlaid_bytes xs at ys (omega (arith, s.whole)) s.filled c.are_bytes.ensures), tt),
-    )
+    let ys = c.args.bytes.now in
+    record {
+      whole = ap length c.overlay.ensures ∙ (overlaid_length xs at ys (omega (arith, s.whole)) ∙ s.whole);
+      filled = subst Bytes (sym c.overlay.ensures) (overlaid_bytes xs at ys (omega (arith, s.whole)) s.filled c.are_bytes.ensures);
+    }
 
 pub returns : goal.returns
 returns c =

@@ -10,4 +10,4 @@ invariant_of-result-2 c =
     let h : c.min-count.result ≤ q = search rules in
     let a = mul-le c.min-count.result n q n h (omega arith) in
     let d = div-add-mod' c.args.bytes.len n in
-    (search rules, (search rules, (omega arith, (search rules, (search rules, tt)))))
+    record { few = search rules; short = search rules; room = omega arith; marked = search rules; filled = search rules }
