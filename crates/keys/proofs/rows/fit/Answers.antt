@@ -6,5 +6,5 @@ pub returns-else-count-eq0 : goal.returns-else-count-eq0
 returns-else-count-eq0 g c =
     record {
       value = search rules;
-      short = λ e. too_short g.K.Key.kind g.met.K.Key.lawful c.args.stride c.args.count c.args.rows.now (omega arith) (let t = c.reaches.ensures in let w = c.key-width.ensures in cc);
+      short = λ e. too_short g.K.Key.kind g.met.K.Key.lawful c.args.stride c.args.count c.args.rows.now (omega arith) (let t = c.reaches.ensures in let w = c.key_width.ensures in cc);
     }

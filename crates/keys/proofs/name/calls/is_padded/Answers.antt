@@ -2,10 +2,10 @@ use Rattle.std.proofs.Common.{rules}
 use Rattle.keys.specs.Padding.{padded}
 use Rattle.keys.proofs.name.calls.is_padded.Goals as goal
 
-pub returns-then-may-follow-6 : goal.returns-then-may-follow-6
+pub returns-then-may_follow-6 : goal.returns-then-may_follow-6
 unfolding padded
-returns-then-may-follow-6 c = search rules
+returns-then-may_follow-6 c = search rules
 
-pub returns-else-may-follow-6 : goal.returns-else-may-follow-6
+pub returns-else-may_follow-6 : goal.returns-else-may_follow-6
 unfolding padded
-returns-else-may-follow-6 c = search rules
+returns-else-may_follow-6 c = search rules

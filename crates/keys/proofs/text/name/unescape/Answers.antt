@@ -6,11 +6,11 @@ use Rattle.keys.proofs.text.name.unescape.Goals as goal
 pub returns-then-count-eq8 : goal.returns-then-count-eq8
 returns-then-count-eq8 c = c.loop-at.invariant.2 ∙ too_many c.loop-at.count c.loop-at.at _ c.args.word.now (omega arith) (omega arith)
 
-pub returns-in-default : goal.returns-in-default
-returns-in-default c =
+pub returns-in_default : goal.returns-in_default
+returns-in_default c =
     let n = c.loop-at.invariant.1 in
     c.loop-at.invariant.2
-    ∙ no_more c.loop-at.count c.loop-at.at _ c.args.word.now (omega arith) (omega arith) (c.in-default.ensures ∙ ap first_byte c.split-at.ensures.back)
+    ∙ no_more c.loop-at.count c.loop-at.at _ c.args.word.now (omega arith) (omega arith) (c.in_default.ensures ∙ ap first_byte c.split_at.ensures.back)
 
 pub loop-at-preserved : goal.loop-at-preserved
 loop-at-preserved c =
@@ -20,8 +20,8 @@ loop-at-preserved c =
     let at = c.loop-at.at in
     let n = c.loop-at.count in
     let b = c.in-Some.byte in
-    let e : Some b ≡ first_byte (drop at cs) = c.in-Some.ensures ∙ ap first_byte c.split-at.ensures.back in
-    let f : c.first-length-at.result ≡ first_length (drop at cs) = c.first-length-at.ensures ∙ ap first_length c.split-at.ensures.back in (
+    let e : Some b ≡ first_byte (drop at cs) = c.in-Some.ensures ∙ ap first_byte c.split_at.ensures.back in
+    let f : c.first_length-at.result ≡ first_length (drop at cs) = c.first_length-at.ensures ∙ ap first_length c.split_at.ensures.back in (
       simp length-set l,
       omega arith,
       c.loop-at.invariant.2
