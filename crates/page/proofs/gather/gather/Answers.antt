@@ -5,8 +5,8 @@ use Rattle.page.proofs.gather.gather.Goals as goal
 pub returns : goal.returns
 returns g c =
     let page = c.args.page.now in
-    let rows : c.split-at.result.1.now ≡ drop 8 page = search rules in
+    let rows : c.split_at.result.1.now ≡ drop 8 page = search rules in
     record {
-      gathered = λ n m low d h. gathered g.K.Key.kind g.met.K.Key.lawful c.args.lo.now c.args.hi.now n m low page d h c.requires.page c.are_bytes.ensures c.args.taken c.args.buffer.now c.requires.fits c.split-at.result.1.now rows c.gather-rows.result c.gather-rows.new.buffer c.gather-rows.ensures.walked;
-      within = c.gather-rows.ensures.within;
+      gathered = λ n m low d h. gathered g.K.Key.kind g.met.K.Key.lawful c.args.lo.now c.args.hi.now n m low page d h c.requires.page c.are_bytes.ensures c.args.taken c.args.buffer.now c.requires.fits c.split_at.result.1.now rows c.gather_rows.result c.gather_rows.new.buffer c.gather_rows.ensures.walked;
+      within = c.gather_rows.ensures.within;
     }

@@ -7,8 +7,8 @@ use Rattle.page.proofs.rows.all_blocks.Goals as goal
 pub loop-i-init : goal.loop-i-init
 loop-i-init g c = from_start g.K.Key.kind c.args.rows.now (kids_within g.K.Key.kind c.args.count) c.args.n
 
-pub number-at-block-requires : goal.number-at-block-requires
-number-at-block-requires g c = search (rules, row_fits)
+pub number_at-block-requires : goal.number_at-block-requires
+number_at-block-requires g c = search (rules, row_fits)
 
 pub returns-then-block-lt1 : goal.returns-then-block-lt1
 returns-then-block-lt1 g c = search (rules, kids_more, kids_all, from_start)

@@ -6,11 +6,11 @@ use Rattle.page.proofs.rows.place_for.Goals as goal
 pub loop-i-init : goal.loop-i-init
 loop-i-init g c = from_start g.K.Key.kind c.args.rows.now (place_at g.K.Key.kind c.args.key.now 0) c.args.n
 
-pub key-at-requires : goal.key-at-requires
-key-at-requires g c = search (rules, row_fits)
+pub key_at-requires : goal.key_at-requires
+key_at-requires g c = search (rules, row_fits)
 
-pub returns-in-default : goal.returns-in-default
-returns-in-default g c = search (rules, place_more, place_all, from_start)
+pub returns-in_default : goal.returns-in_default
+returns-in_default g c = search (rules, place_more, place_all, from_start)
 
 pub returns-then-less : goal.returns-then-less
 returns-then-less g c = search (rules, place_more, place_all, from_start)

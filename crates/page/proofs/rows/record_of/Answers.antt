@@ -6,17 +6,17 @@ use Rattle.page.proofs.rows.record_of.Goals as goal
 pub loop-i-init : goal.loop-i-init
 loop-i-init g c = from_start g.K.Key.kind c.args.rows.now (record_at g.K.Key.kind c.args.key.now) c.args.n
 
-pub key-at-requires : goal.key-at-requires
-key-at-requires g c = search (rules, row_fits)
+pub key_at-requires : goal.key_at-requires
+key_at-requires g c = search (rules, row_fits)
 
-pub returns-in-default : goal.returns-in-default
-returns-in-default g c = search (rules, record_more, record_all, from_start)
+pub returns-in_default : goal.returns-in_default
+returns-in_default g c = search (rules, record_more, record_all, from_start)
 
 pub returns-then-less : goal.returns-then-less
 returns-then-less g c = search (rules, record_more, record_all, from_start)
 
-pub number-at-requires : goal.number-at-requires
-number-at-requires g c = search (rules, row_fits)
+pub number_at-requires : goal.number_at-requires
+number_at-requires g c = search (rules, row_fits)
 
 pub returns-then-not-less : goal.returns-then-not-less
 returns-then-not-less g c = search (rules, record_more, record_all, from_start)
