@@ -5,7 +5,7 @@ use Rattle.index.proofs.count.count.Goals as goal
 
 pub returns : goal.returns
 returns g c =
-    let e = c.count-told.ensures in
+    let e = c.count_told.ensures in
     let m = g.S.Store.meaning c.args.store.now in
     record {
       answer = e.answer;

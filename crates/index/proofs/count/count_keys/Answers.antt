@@ -2,5 +2,5 @@ use Rattle.std.proofs.Common.{rules}
 use Rattle.index.proofs.Steps.{unfit}
 use Rattle.index.proofs.count.count_keys.Goals as goal
 
-pub returns-then-not-is-fit : goal.returns-then-not-is-fit
-returns-then-not-is-fit g c = search (rules, unfit)
+pub returns-then-not-is_fit : goal.returns-then-not-is_fit
+returns-then-not-is_fit g c = search (rules, unfit)

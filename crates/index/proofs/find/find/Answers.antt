@@ -5,7 +5,7 @@ use Rattle.index.proofs.find.find.Goals as goal
 
 pub returns : goal.returns
 returns g c =
-    let e = c.find-told.ensures in
+    let e = c.find_told.ensures in
     let m = g.S.Store.meaning c.args.store.now in
     let k = c.args.key.now in
     record {

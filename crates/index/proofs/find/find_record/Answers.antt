@@ -2,5 +2,5 @@ use Rattle.std.proofs.Common.{◌≡◌, ℕ, Bool, cond, ◌&&◌, leb, sym, re
 use Rattle.index.proofs.Steps.{unfit}
 use Rattle.index.proofs.find.find_record.Goals as goal
 
-pub returns-then-not-is-fit : goal.returns-then-not-is-fit
-returns-then-not-is-fit g c = search (rules, unfit)
+pub returns-then-not-is_fit : goal.returns-then-not-is_fit
+returns-then-not-is_fit g c = search (rules, unfit)

@@ -5,7 +5,7 @@ use Rattle.index.proofs.format.format.Goals as goal
 
 pub returns : goal.returns
 returns g c =
-    let e = c.format-told.ensures in
+    let e = c.format_told.ensures in
     let m = g.S.Store.meaning c.args.store.now in
     record {
       answer = e.answer;

@@ -7,48 +7,48 @@ use Rattle.store.specs.Meaning.{Meaning}
 pub returns-in-Err : goal.returns-in-Err
 returns-in-Err g c =
     let e = c.in-Err.ensures in
-    nothing_yet g.K.Key.kind c.args.buffer.now (g.S.Store.meaning c.read-head.new.store) c.in-Err.refusal _
-    (head_stop g.K.Key.kind (g.S.Store.meaning c.args.store.now) (g.S.Store.meaning c.read-head.new.store) e.after [] _ c.in-Err.refusal e.answer)
+    nothing_yet g.K.Key.kind c.args.buffer.now (g.S.Store.meaning c.read_head.new.store) c.in-Err.refusal _
+    (head_stop g.K.Key.kind (g.S.Store.meaning c.args.store.now) (g.S.Store.meaning c.read_head.new.store) e.after [] _ c.in-Err.refusal e.answer)
 
-pub reach-leaf-requires : goal.reach-leaf-requires
-reach-leaf-requires g c =
+pub reach_leaf-requires : goal.reach_leaf-requires
+reach_leaf-requires g c =
     let e = c.in-Ok.ensures in
-    let r = head_room g.K.Key.kind (g.S.Store.meaning c.args.store.now) (g.S.Store.meaning c.read-head.new.store) e.after c.in-Ok.head c.requires.1.0 e.answer in
+    let r = head_room g.K.Key.kind (g.S.Store.meaning c.args.store.now) (g.S.Store.meaning c.read_head.new.store) e.after c.in-Ok.head c.requires.1.0 e.answer in
     let s = ap (λ (x : Meaning). x.size) e.after in
     let v = c.requires.0 in
-    (omega (arith, c.read-head.auto.page), (omega arith, r.1))
+    (omega (arith, c.read_head.auto.page), (omega arith, r.1))
 
-pub returns-in-Err-reach-leaf : goal.returns-in-Err-reach-leaf
-returns-in-Err-reach-leaf g c =
+pub returns-in-Err-reach_leaf : goal.returns-in-Err-reach_leaf
+returns-in-Err-reach_leaf g c =
     let e = c.in-Ok.ensures in
-    not_reached g.K.Key.kind c.args.lo.now c.args.hi.now c.args.buffer.now (g.S.Store.meaning c.args.store.now) (g.S.Store.meaning c.read-head.new.store) e.after c.in-Ok.head e.answer
-    (g.S.Store.meaning c.reach-leaf.new.store) c.reach-leaf.new.page c.in-Err-reach-leaf.refusal c.in-Err-reach-leaf.ensures.reached
+    not_reached g.K.Key.kind c.args.lo.now c.args.hi.now c.args.buffer.now (g.S.Store.meaning c.args.store.now) (g.S.Store.meaning c.read_head.new.store) e.after c.in-Ok.head e.answer
+    (g.S.Store.meaning c.reach_leaf.new.store) c.reach_leaf.new.page c.in-Err-reach_leaf.refusal c.in-Err-reach_leaf.ensures.reached
 
-pub follow-leaves-requires : goal.follow-leaves-requires
-follow-leaves-requires g c =
+pub follow_leaves-requires : goal.follow_leaves-requires
+follow_leaves-requires g c =
     let κ = g.K.Key.kind in
     let e = c.in-Ok.ensures in
     let m = g.S.Store.meaning c.args.store.now in
-    let m' = g.S.Store.meaning c.read-head.new.store in
+    let m' = g.S.Store.meaning c.read_head.new.store in
     let d = c.in-Ok.head in
     let h = head_room κ m m' e.after d c.requires.1.0 e.answer in
     let s = ap (λ (x : Meaning). x.size) e.after in
     let n = ap (λ (x : Meaning). x.count) e.after in
-    let w = c.in-default.ensures in
+    let w = c.in_default.ensures in
     let r = w.reached in
     let v = c.requires.0 in
     let two = c.requires.1.1 in
-    let long : length c.reach-leaf.new.page ≡ m'.size = omega (arith, c.reach-leaf.auto.page, c.read-head.auto.page) in
-    (long ∙ sym w.size, (omega (arith, w.size), (leaf_room κ m'.count d.order m'.size c.reach-leaf.new.page r.0 r.2 (omega arith) long, omega (arith, w.count))))
+    let long : length c.reach_leaf.new.page ≡ m'.size = omega (arith, c.reach_leaf.auto.page, c.read_head.auto.page) in
+    (long ∙ sym w.size, (omega (arith, w.size), (leaf_room κ m'.count d.order m'.size c.reach_leaf.new.page r.0 r.2 (omega arith) long, omega (arith, w.count))))
 
 pub returns : goal.returns
 returns g c =
     let κ = g.K.Key.kind in
     let e = c.in-Ok.ensures in
-    let m' = g.S.Store.meaning c.read-head.new.store in
-    let after = g.S.Store.meaning c.reach-leaf.new.store in
-    let w = c.in-default.ensures in
+    let m' = g.S.Store.meaning c.read_head.new.store in
+    let after = g.S.Store.meaning c.reach_leaf.new.store in
+    let w = c.in_default.ensures in
     let r = w.reached in
     first_reached κ c.args.lo.now c.args.hi.now c.args.buffer.now (g.S.Store.meaning c.args.store.now) m' e.after c.in-Ok.head e.answer
-    after c.reach-leaf.new.page r w.count c.follow-leaves.result c.follow-leaves.new.buffer (g.S.Store.meaning c.follow-leaves.new.store)
-    (c.follow-leaves.ensures r.0 (leaf_there κ m'.count after.count c.in-Ok.head.order c.reach-leaf.new.page r.0 w.count r.2))
+    after c.reach_leaf.new.page r w.count c.follow_leaves.result c.follow_leaves.new.buffer (g.S.Store.meaning c.follow_leaves.new.store)
+    (c.follow_leaves.ensures r.0 (leaf_there κ m'.count after.count c.in-Ok.head.order c.reach_leaf.new.page r.0 w.count r.2))
