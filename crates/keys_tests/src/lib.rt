@@ -118,7 +118,7 @@ mod tests {
     #[test]
     fn lots_as_text(rt: HostRuntime) -> Result<(), Fail> {
         let lot = Lot::new(2026, 3, 17);
-        let text = format!(rt.alloc(), "{lot}")?;
+        let text = format!(in rt.alloc(); "{lot}")?;
         assert_eq!(rt; text.as_str(), "2026-3-17");
         assert_eq!(rt; Lot::parse(text.as_bytes()), Some(lot));
         assert_eq!(rt;
@@ -139,7 +139,7 @@ mod tests {
     #[test]
     fn moments_as_text(rt: HostRuntime) -> Result<(), Fail> {
         let lowest = Moment::new(i64::MIN);
-        let text = format!(rt.alloc(), "{lowest}")?;
+        let text = format!(in rt.alloc(); "{lowest}")?;
         assert_eq!(rt; text.as_str(), "-9223372036854775808");
         assert_eq!(rt; Moment::parse(text.as_bytes()), Some(lowest));
         assert_eq!(rt;
@@ -160,7 +160,7 @@ mod tests {
     #[test]
     fn names_as_text(rt: HostRuntime) -> Result<(), Fail> {
         let oak = name(b"50% oak~")?;
-        let text = format!(rt.alloc(), "{oak}")?;
+        let text = format!(in rt.alloc(); "{oak}")?;
         assert_eq!(rt; text.as_str(), "50%25%20oak~");
         assert_eq!(rt; Name::parse(text.as_bytes()), Some(oak));
         assert_eq!(rt; Name::parse(b"%41sh"), Name::new(b"Ash"));
