@@ -11,16 +11,14 @@
 --   up-entry κ o r bs         an entry that goes up, in bytes: r says whether there is one
 --   Sprung κ size g batch spare r bs     memory holds what grew: the writes, the blocks left, and what goes up
 --   Sprouted                  the plan of sprout was run: the answer, memory and the store afterwards
-use Rattle.std.specs.Prelude.{◌≡◌, ℕ, zero, suc, ◌+◌, ◌-◌, Bool, true, false, cond, ◌&&◌, List, [], ◌∷◌, ◌++◌, length, Some, None, Ok, Err, Option, Result, nat_le}
+use Rattle.std.specs.Prelude.{ℕ, zero, suc, ◌+◌, Bool, true, false, ◌&&◌, length, nat_le}
 use Rattle.keys.specs.Kind.{Kind}
-use Rattle.store.specs.Meaning.{Meaning}
 use Rattle.tree.specs.declared.head.Head.{Head}
-use Rattle.tree.specs.declared.refusal.Refusal.{Refusal}
 use Rattle.tree.specs.declared.refusal.Refusal.TheVariants.{NoRoom}
-use Rattle.tree.specs.Entries.{lookup, part, write_entries}
-use Rattle.tree.specs.Inserts.{Grown, Writes, grow_frame, grow_leaf, if_new, insert_entry, inserted, once_each, when, with_frees}
+use Rattle.tree.specs.Entries.{lookup, part}
+use Rattle.tree.specs.Inserts.{Grown, Writes, grow_frame, grow_leaf, if_new, insert_entry, inserted, when, with_frees}
 use Rattle.tree.specs.Nodes.{Node, least}
-use Rattle.tree.specs.Plans.{Plan, bare, run}
+use Rattle.tree.specs.Plans.{Plan, run}
 use Rattle.tree.specs.Plans.Plan.{done, look, refuse}
 use Rattle.tree.specs.Walks.{Frame, last_kid, with_node}
 

@@ -1,4 +1,4 @@
-use Rattle.std.proofs.Common.{◌≡◌, ℕ, ◌+◌, List, [], ◌∷◌, ◌++◌, length, replicate, sym, ap, ◌∙◌, arith}
+use Rattle.std.proofs.Common.{◌≡◌, ℕ, List, ◌∷◌, length, replicate, ap, ◌∙◌, arith}
 use Rattle.keys.specs.Bytes.{big_endian}
 use Rattle.store.specs.Bytes.{overlaid}
 use Rattle.tree.specs.Nodes.{tag_of}

@@ -1,4 +1,4 @@
-use Rattle.std.proofs.Common.{◌≡◌, ◌≤◌, length}
+use Rattle.std.proofs.Common.{◌≡◌, length}
 use Rattle.update.proofs.Frees.{Going}
 use Rattle.update.proofs.free.read_frees.Given as goal
 use Rattle.update.specs.Spares.{spare_of}

@@ -1,8 +1,4 @@
-use Rattle.std.proofs.Common.{◌≡◌, ℕ, ◌+◌, ◌-◌, ◌*◌, ◌/◌, ◌<◌, ◌≤◌, List, [], ◌∷◌, ◌++◌, length, sym, refl, ap, ◌∙◌, arith}
-use Rattle.keys.specs.Bytes.{big_endian}
-use Rattle.tree.specs.Fields.{padded}
-use Rattle.tree.specs.Inserts.{Writes}
-use Rattle.update.specs.Batches.{stacked}
+use Rattle.std.proofs.Common.{◌≡◌, ◌-◌, ◌∙◌, arith}
 use Rattle.update.specs.Spares.{spare_of}
 use Rattle.update.proofs.Growing.{leaf_split}
 use Rattle.update.proofs.grow.grow_leaf.Goals as goal
