@@ -1,6 +1,5 @@
 -- A range before its first leaf.
-use Rattle.std.proofs.Common.{◌≡◌, ℕ, ◌+◌, ◌-◌, ◌/◌, Bool, true, false, cond, List, [], length, Ok, Err, Result, sym, refl, ap, ◌∙◌, subst}
-use Rattle.index.proofs.Ranging.{Came}
+use Rattle.std.proofs.Common.{◌≡◌, ℕ, ◌+◌, ◌-◌, ◌/◌, Bool, true, false, List, [], length, Ok, Err, Result, sym, refl, ap, ◌∙◌, subst}
 use Rattle.index.proofs.Steps.{head_step, walk_then}
 use Rattle.index.specs.Leaves.{Leaf, Reached, continued, leaf_from}
 use Rattle.index.specs.Rangings.{RangeEnd}
@@ -10,7 +9,7 @@ use Rattle.store.specs.Calls.{refusal}
 use Rattle.store.specs.Meaning.{Meaning, tallied}
 use Rattle.tree.specs.declared.head.Head.{Head}
 use Rattle.tree.specs.declared.refusal.Refusal.{Refusal}
-use Rattle.tree.specs.declared.refusal.Refusal.TheVariants.{Crossed, Unfit}
+use Rattle.tree.specs.declared.refusal.Refusal.TheVariants.{Crossed}
 use Rattle.tree.specs.Entries.{write_entries}
 use Rattle.tree.specs.Heads.{see_head}
 use Rattle.tree.specs.Nodes.{Node, see_node}

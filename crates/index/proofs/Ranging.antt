@@ -1,8 +1,8 @@
 -- A range, leaf by leaf.
-use Rattle.std.proofs.Common.{◌≡◌, ℕ, zero, suc, ◌+◌, ◌-◌, ◌*◌, ◌/◌, ◌<◌, ◌≤◌, Bool, true, false, cond, eqb, List, [], ◌∷◌, ◌++◌, length, get_or, take, drop, Some, None, Ok, Err, Option, Result, sym, refl, ap, ◌∙◌, subst, ⊎_elim, add-mul, zero-mul, arith, length-append, rules}
+use Rattle.std.proofs.Common.{◌≡◌, ℕ, suc, ◌+◌, ◌-◌, ◌*◌, ◌/◌, ◌<◌, ◌≤◌, Bool, true, false, cond, eqb, List, [], ◌++◌, length, Some, None, Ok, Err, Option, Result, sym, refl, ap, ◌∙◌, ⊎_elim, add-mul, zero-mul, arith, length-append, rules}
 use Rattle.index.specs.Leaves.{Leaf}
 use Rattle.index.specs.Rangings.{RangeEnd, ended}
-use Rattle.index.specs.Readings.{Reading, node_answer}
+use Rattle.index.specs.Readings.{Reading}
 use Rattle.index.proofs.Steps.{stops, went_on}
 use Rattle.keys.specs.Kind.{Kind, Lawful}
 use Rattle.page.specs.Gathers.{Gathered, scan_into}
@@ -12,7 +12,6 @@ use Rattle.std.proofs.lemmas.List.{places, same_lists}
 use Rattle.std.proofs.lemmas.Nat.{div-add-mod', mul-le}
 use Rattle.std.proofs.lemmas.Bool.{cases_lt, eq-eqb, ne_eqb}
 use Rattle.store.specs.Bytes.{overlaid}
-use Rattle.store.specs.Calls.{refusal}
 use Rattle.store.specs.Meaning.{Meaning}
 use Rattle.tree.specs.declared.refusal.Refusal.{Refusal}
 use Rattle.tree.specs.declared.refusal.Refusal.TheVariants.{Broken}

@@ -1,5 +1,5 @@
 -- The steps of a walk, run.
-use Rattle.std.proofs.Common.{◌≡◌, ℕ, zero, suc, ◌+◌, ◌-◌, ◌*◌, ◌/◌, ◌<◌, ◌≤◌, Bool, true, false, cond, ◌&&◌, eqb, ltb, leb, List, [], ◌∷◌, length, get_or, take, drop, Some, None, Ok, Err, Option, Result, sym, refl, ap, ◌∙◌, subst, arith}
+use Rattle.std.proofs.Common.{◌≡◌, ℕ, zero, suc, ◌+◌, ◌-◌, ◌*◌, ◌/◌, ◌<◌, ◌≤◌, Bool, true, false, cond, ◌&&◌, ltb, leb, List, length, get_or, drop, Some, None, Ok, Err, Option, Result, sym, refl, ap, ◌∙◌, arith}
 use Rattle.std.proofs.lemmas.Nat.{mul-le, div-add-mod'}
 use Rattle.std.proofs.lemmas.Bool.{leb-true, and_parts}
 use Rattle.index.specs.Readings.{Reading, head_answer, node_answer}
@@ -21,7 +21,7 @@ use Rattle.tree.specs.Heads.{order_fits, see_head}
 use Rattle.tree.specs.Nodes.{Node, Seen, is_block, least, see_node}
 use Rattle.tree.specs.Nodes.Seen.{wrong, right}
 use Rattle.tree.specs.Plans.{Outcome, Plan, bare, on_read, run}
-use Rattle.tree.specs.Plans.Plan.{done, look, refuse}
+use Rattle.tree.specs.Plans.Plan.{done, refuse}
 use Rattle.tree.specs.Walks.{is_fit, last_kid, on_head, on_seen, walk, when_fit, with_head, with_node}
 
 pub node_right : {D : Type 0} (o : Option Fault) (b : ℕ) (s : Seen D) → Ok tt ≡ node_answer o b s → (d : D) × (s ≡ right d) × (o ≡ None)

@@ -2,7 +2,7 @@
 --
 --   node_answer o b s      what reading block b answers that was refused by o, or seen as s
 --   head_answer o s        the same of the head
---   Reading κ leaf? m top order b old new after r     block b was read over a store that means m, as a leaf or an inner
+--   Reading κ is_leaf m top order b old new after r   block b was read over a store that means m, as a leaf or an inner
 --                          node, the root or another, of at most `order` entries: the answer, the page and the store afterwards
 use Rattle.std.specs.Prelude.{◌≡◌, ℕ, Bool, List, Some, None, Ok, Err, Option, Result}
 use Rattle.keys.specs.Kind.{Kind}

@@ -8,7 +8,7 @@
 -- name_text cs             the name that text is, if it gives one to eight bytes, and each is a character
 -- shown_byte b             the text of one byte of a name: nothing for padding, and for a plain character its code in UTF-8, that is itself
 -- name_shown k             the text of a name
-use Rattle.std.specs.Prelude.{ℕ, zero, suc, ◌+◌, ◌-◌, ◌*◌, cond, ◌&&◌, List, [], ◌∷◌, ◌++◌, length, drop, Some, None, codes, Option, ◌==◌, slice_index}
+use Rattle.std.specs.Prelude.{ℕ, zero, suc, cond, List, [], ◌++◌, length, drop, Some, None, codes, Option, ◌==◌, slice_index}
 use Rattle.std.proofs.Math.Utf8.{encode}
 use Rattle.keys.specs.declared.name.Name.{Name}
 use Rattle.numerals.specs.Hexadecimals.{hex_byte, in_front}

@@ -1,5 +1,5 @@
 -- Where a key has its place among a node's entries, and the bytes of entries before and behind it.
-use Rattle.std.proofs.Common.{◌≡◌, ℕ, zero, suc, ◌+◌, ◌-◌, ◌*◌, ◌<◌, ◌≤◌, Bool, true, false, cond, List, [], ◌∷◌, ◌++◌, length, get_or, take, drop, Some, None, Option, sym, refl, ap, ◌∙◌, suc-mul, arith, length-append, length-drop}
+use Rattle.std.proofs.Common.{◌≡◌, ℕ, zero, suc, ◌+◌, ◌*◌, ◌≤◌, Bool, true, false, cond, List, [], ◌∷◌, ◌++◌, length, get_or, take, drop, Some, None, Option, sym, refl, ap, ◌∙◌, suc-mul, arith, length-drop}
 use Rattle.keys.specs.Bytes.{big_endian}
 use Rattle.keys.specs.Kind.{Kind, Lawful}
 use Rattle.page.proofs.Gathers.{drop_bytes, entry_bytes, take_two}
@@ -8,7 +8,7 @@ use Rattle.page.proofs.Seen.{seen_right}
 use Rattle.page.specs.Rows.{place_at, place_by}
 use Rattle.std.proofs.lemmas.List.{drop_at, take_at}
 use Rattle.store.specs.Bytes.{Bytes}
-use Rattle.tree.specs.Entries.{Parts, join_entry, key_of, number_of, part, part_at, past, see_entries, write_entries}
+use Rattle.tree.specs.Entries.{join_entry, key_of, number_of, part, part_at, past, see_entries, write_entries}
 use Rattle.tree.specs.Nodes.{Node, see_node}
 use Rattle.tree.specs.Nodes.Seen.{right}
 

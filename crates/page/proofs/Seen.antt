@@ -1,11 +1,11 @@
 -- What a node's entries say is what a walk over its bytes says.
-use Rattle.std.proofs.Common.{◌≡◌, ℕ, zero, suc, ◌+◌, ◌-◌, ◌*◌, ◌^◌, ◌<◌, ◌≤◌, Bool, true, false, cond, not, ◌&&◌, eqb, ltb, leb, List, [], ◌∷◌, length, get_or, take, drop, Some, None, Option, sym, refl, ap, ◌∙◌, subst, arith}
+use Rattle.std.proofs.Common.{◌≡◌, ℕ, zero, suc, ◌+◌, ◌*◌, ◌≤◌, Bool, true, false, cond, not, ◌&&◌, eqb, leb, List, [], ◌∷◌, get_or, drop, Some, None, Option, sym, refl, ap, ◌∙◌, arith}
 use Rattle.std.proofs.lemmas.Bool.{leb-true, and_parts}
 use Rattle.std.proofs.lemmas.Nat.{mul-le}
 use Rattle.keys.specs.Kind.{Kind, Lawful}
 use Rattle.keys.specs.Rows.{keys_of, rise, rise_above, rows_rise}
 use Rattle.page.specs.Rows.{flaw_of, kid_at, kid_by, kids_within, links_fit, record_at, record_by}
-use Rattle.tree.specs.Entries.{above, join_entry, key_of, lookup, number_of, part, part_at, past, rises, same_key, see_entries}
+use Rattle.tree.specs.Entries.{above, join_entry, key_of, lookup, number_of, part, part_at, past, rises, see_entries}
 use Rattle.tree.specs.Fields.{u32_at}
 use Rattle.tree.specs.Nodes.{Node, Seen, check, is_block, kids_fit, node_with, numbers_fit, or_wrong, see_node, tag_of}
 use Rattle.tree.specs.Nodes.Seen.{wrong, right}

@@ -5,7 +5,7 @@
 --   kid_at κ k b n bs             the child for k among n entries, where b is the child before them
 --   place_at κ k a n bs           how many of n entries are up to k, a more
 --   record_at κ k n bs            the record of k among n entries
---   links_fit κ count leaf? bs    whether a node's link and children keep rule 5
+--   links_fit κ count is_leaf bs  whether a node's link and children keep rule 5
 --   flaw_of s                     the rule that a block breaks
 use Rattle.std.specs.Prelude.{ℕ, zero, suc, ◌+◌, ◌*◌, Bool, true, false, cond, ◌&&◌, List, drop, Some, None, Option, nat_lt}
 use Rattle.keys.specs.Kind.{Kind}

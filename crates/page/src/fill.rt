@@ -84,13 +84,9 @@ pub fn fill_node(page: &mut [u8], leaf: bool, count: u8, link: u32, entries: &[u
     requires { 8 + length entries.now ≤ length page.old }
     ensures { page.new ≡ padded (length page.old) (tag_of leaf ∷ count ∷ 0 ∷ 0 ∷ (big_endian 4 link ++ entries.now)) }
 {
-    let link = u32_bytes(link);
+    let [a, b, c, d] = u32_bytes(link);
     clear(page);
-    overlay(
-        page,
-        0,
-        &[tag(leaf), count, 0, 0, link[0], link[1], link[2], link[3]],
-    );
+    overlay(page, 0, &[tag(leaf), count, 0, 0, a, b, c, d]);
     overlay(page, 8, entries);
 }
 

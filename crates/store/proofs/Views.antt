@@ -1,5 +1,5 @@
 -- Bytes and marks changed in memory are blocks and marks changed in a store's meaning.
-use Rattle.std.proofs.Common.{◌≡◌, ℕ, ◌+◌, ◌*◌, ◌<◌, ◌≤◌, cond, eqb, List, length, take, drop, set, vec_items, vec_len, sym, refl, ap, ◌∙◌, ⊎_elim, arith, get_or-set_other, get_or-set_same}
+use Rattle.std.proofs.Common.{◌≡◌, ℕ, ◌+◌, ◌*◌, ◌<◌, ◌≤◌, List, length, set, vec_items, vec_len, sym, refl, ap, ◌∙◌, ⊎_elim, arith, get_or-set_other, get_or-set_same}
 use Rattle.std.proofs.lemmas.List.{with_items_is}
 use Rattle.std.proofs.lemmas.Bool.Decides.{nat_tests}
 use Rattle.std.proofs.lemmas.Bool.{cases_eq, eq-eqb, ne_eqb}
@@ -10,7 +10,7 @@ use Rattle.store.specs.BenchMeaning.{kept}
 use Rattle.store.specs.Meaning.{Meaning, written}
 use Rattle.store.specs.PlainMeaning.{view, marked_by, patched, refilled, remarked}
 use Rattle.store.proofs.Meanings.{same_meaning}
-use Rattle.store.specs.Blocks.{block_fits, blocks_overlaid, blocks_written, block_length, overlaid_whole, overlaid_length}
+use Rattle.store.specs.Blocks.{block_fits, blocks_overlaid, blocks_written, overlaid_whole, overlaid_length}
 
 pub view_patched : (c n t b o : ℕ) (xs ms ys zs : List ℕ) → b < c → c * n ≤ length xs → o + length ys ≤ n
     → zs ≡ overlaid xs (b * n + o) ys → view c n zs ms t ≡ patched (view c n xs ms t) b o ys

@@ -1,7 +1,7 @@
 -- Blocks of n bytes that lie one after another in a list.
 use Rattle.std.specs.Prelude.{◌≡◌, ℕ, zero, suc, ◌+◌, ◌-◌, ◌*◌, ◌<◌, ◌≤◌, cond, ◌≢◌, List, ◌++◌, length, take, drop, replicate, ◌==◌, refl}
 use Rattle.std.proofs.Common.{sym, ap, ◌∙◌, ⊎_elim, arith, suc-mul, zero-mul, rules, lit<, length-take, length-drop, length-append}
-use Rattle.std.proofs.lemmas.List.{same_lists, places, get_or_past}
+use Rattle.std.proofs.lemmas.List.{same_lists, places}
 use Rattle.std.proofs.lemmas.Bool.{cases_lt, cases_eq, eq-eqb, ne_eqb}
 use Rattle.std.proofs.lemmas.Nat.{mul-le}
 use Rattle.store.specs.Bytes.{Bytes, overlaid, gathered}

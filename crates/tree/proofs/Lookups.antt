@@ -114,11 +114,11 @@ module _ {K : Type 0} (κ : Kind K) (L : Lawful κ) (k : K) where
       go true e i = rw e p
       go false e i = rw e i
 
-  pub found_right : (h : ℕ) (top : Bool) (t : Tree K h) → EachNode (λ is_IsLeaf top b d. rises κ d.entries ≡ true) h top t → Parted κ h t
+  pub found_right : (h : ℕ) (top : Bool) (t : Tree K h) → EachNode (λ is_leaf top b d. rises κ d.entries ≡ true) h top t → Parted κ h t
       → lookup κ k (found_in κ h k t).node.entries ≡ lookup κ k (entries_of K h t)
   found_right zero top t r p = refl
   found_right (suc h) top t r p =
-      found_right h false (kid_for κ k t.first t.rest) (kid_has (EachNode (λ is_IsLeaf top b d. rises κ d.entries ≡ true) h false) t.first t.rest r.1 r.2)
+      found_right h false (kid_for κ k t.first t.rest) (kid_has (EachNode (λ is_leaf top b d. rises κ d.entries ≡ true) h false) t.first t.rest r.1 r.2)
       (kid_has (Parted κ h) t.first t.rest p.1 p.2)
       ∙ sym (row_look h None None t.first t.rest p.0 (rises_by κ (block_of K h) t.rest r.0))
 
@@ -148,9 +148,9 @@ module _ {K : Type 0} (κ : Kind K) (L : Lawful κ) (k : K) where
       rest (y ∷ ys) r = r.1
 
   -- the keys of a tree's leaves rise
-  pub leaves_rise : (h : ℕ) (top : Bool) (t : Tree K h) → EachNode (λ is_IsLeaf top b d. rises κ d.entries ≡ true) h top t → Parted κ h t → rises κ (entries_of K h t) ≡ true
+  pub leaves_rise : (h : ℕ) (top : Bool) (t : Tree K h) → EachNode (λ is_leaf top b d. rises κ d.entries ≡ true) h top t → Parted κ h t → rises κ (entries_of K h t) ≡ true
   leaves_rise zero top t r p = r
   leaves_rise (suc h) top t r p =
       row_rises h None None t.first t.rest p.0 (rises_by κ (block_of K h) t.rest r.0) (leaves_rise h false t.first r.1 p.1)
-      (all_map (λ (x : K × Tree K h) (a : EachNode (λ is_IsLeaf top b d. rises κ d.entries ≡ true) h false x.1 × Parted κ h x.1). leaves_rise h false x.1 a.0 a.1) t.rest
-      (all_both (λ (x : K × Tree K h). EachNode (λ is_IsLeaf top b d. rises κ d.entries ≡ true) h false x.1) (λ (x : K × Tree K h). Parted κ h x.1) t.rest r.2 p.2))
+      (all_map (λ (x : K × Tree K h) (a : EachNode (λ is_leaf top b d. rises κ d.entries ≡ true) h false x.1 × Parted κ h x.1). leaves_rise h false x.1 a.0 a.1) t.rest
+      (all_both (λ (x : K × Tree K h). EachNode (λ is_leaf top b d. rises κ d.entries ≡ true) h false x.1) (λ (x : K × Tree K h). Parted κ h x.1) t.rest r.2 p.2))

@@ -23,10 +23,10 @@ module _ {X : Type 0} (P Q : X → Type 0) where
   all_both (x ∷ xs) a b = ((a.0, b.0), all_both xs a.1 b.1)
 
 abbrev pub Both : {K : Type 0} → (P Q : Bool → Bool → ℕ → Node K → Type 0) → Bool → Bool → ℕ → Node K → Type 0
-Both P Q is_IsLeaf top b d = P is_IsLeaf top b d × Q is_IsLeaf top b d
+Both P Q is_leaf top b d = P is_leaf top b d × Q is_leaf top b d
 
 module _ {K : Type 0} (P Q : Bool → Bool → ℕ → Node K → Type 0) where
-  pub each_map : ((is_IsLeaf top : Bool) (b : ℕ) (d : Node K) → P is_IsLeaf top b d → Q is_IsLeaf top b d) → (h : ℕ) (top : Bool) (t : Tree K h) → EachNode P h top t → EachNode Q h top t
+  pub each_map : ((is_leaf top : Bool) (b : ℕ) (d : Node K) → P is_leaf top b d → Q is_leaf top b d) → (h : ℕ) (top : Bool) (t : Tree K h) → EachNode P h top t → EachNode Q h top t
   each_map f zero top t p = f true top t.block (node_of K zero t) p
   each_map f (suc h) top t p = (
     f false top t.block (node_of K (suc h) t) p.0,
@@ -44,40 +44,40 @@ module _ {K : Type 0} (P Q : Bool → Bool → ℕ → Node K → Type 0) where
 
 module _ {K : Type 0} (κ : Kind K) where
   -- a block that keeps rules 2 to 5 is seen
-  node_seen : (n m : ℕ) (is_IsLeaf : Bool) (low : ℕ) (bs : List ℕ) (d : Node K) → u32_at 4 bs ≡ d.link → u8_at 0 bs ≡ tag_of is_IsLeaf → u8_at 1 bs ≤ m → low ≤ u8_at 1 bs
-      → see_entries κ (u8_at 1 bs) (drop 8 bs) ≡ Some d.entries → rises κ d.entries ≡ true → numbers_fit κ n is_IsLeaf d ≡ true → see_node κ n m is_IsLeaf low bs ≡ right d
+  node_seen : (n m : ℕ) (is_leaf : Bool) (low : ℕ) (bs : List ℕ) (d : Node K) → u32_at 4 bs ≡ d.link → u8_at 0 bs ≡ tag_of is_leaf → u8_at 1 bs ≤ m → low ≤ u8_at 1 bs
+      → see_entries κ (u8_at 1 bs) (drop 8 bs) ≡ Some d.entries → rises κ d.entries ≡ true → numbers_fit κ n is_leaf d ≡ true → see_node κ n m is_leaf low bs ≡ right d
   unfolding see_node
-  node_seen n m is_IsLeaf low bs d link tag most least keys rise fit =
-      rw (eq-eqb (u8_at 0 bs) (tag_of is_IsLeaf) tag, le-leb low (u8_at 1 bs) least, le-leb (u8_at 1 bs) m most, keys, link, rise, fit)
+  node_seen n m is_leaf low bs d link tag most least keys rise fit =
+      rw (eq-eqb (u8_at 0 bs) (tag_of is_leaf) tag, le-leb low (u8_at 1 bs) least, le-leb (u8_at 1 bs) m most, keys, link, rise, fit)
 
 module _ {K : Type 0} {κ : Kind K} {n size : ℕ} {c : ℕ → List ℕ} (S : Sound κ n size c) where
   pub sound_shows : Shows κ n S.head.order c S.height true S.tree
   sound_shows =
       each_map (Both Link Past_link) _
-      (λ is_IsLeaf top b d p. node_seen κ n S.head.order is_IsLeaf (least S.head.order top is_IsLeaf) (c b) d p.0 p.1.0 p.1.1.0 p.1.1.1.0 p.1.1.1.1.0 p.1.1.1.1.1.0 p.1.1.1.1.1.1)
+      (λ is_leaf top b d p. node_seen κ n S.head.order is_leaf (least S.head.order top is_leaf) (c b) d p.0 p.1.0 p.1.1.0 p.1.1.1.0 p.1.1.1.1.0 p.1.1.1.1.1.0 p.1.1.1.1.1.1)
       S.height true S.tree
       (and Link Past_link S.links_shown (and Tag Past_tag S.node_tags (and Most Past_most S.most_counts (and Least Past_least S.least_counts (and Read (Both Rise Fit) S.keys_read (and Rise Fit S.keys_rise S.numbers_bounds))))))
     where
       Link : Bool → Bool → ℕ → Node K → Type 0
-      Link is_IsLeaf top b d = u32_at 4 (c b) ≡ d.link
+      Link is_leaf top b d = u32_at 4 (c b) ≡ d.link
 
       Tag : Bool → Bool → ℕ → Node K → Type 0
-      Tag is_IsLeaf top b d = u8_at 0 (c b) ≡ tag_of is_IsLeaf
+      Tag is_leaf top b d = u8_at 0 (c b) ≡ tag_of is_leaf
 
       Most : Bool → Bool → ℕ → Node K → Type 0
-      Most is_IsLeaf top b d = u8_at 1 (c b) ≤ S.head.order
+      Most is_leaf top b d = u8_at 1 (c b) ≤ S.head.order
 
       Least : Bool → Bool → ℕ → Node K → Type 0
-      Least is_IsLeaf top b d = least S.head.order top is_IsLeaf ≤ u8_at 1 (c b)
+      Least is_leaf top b d = least S.head.order top is_leaf ≤ u8_at 1 (c b)
 
       Read : Bool → Bool → ℕ → Node K → Type 0
-      Read is_IsLeaf top b d = see_entries κ (u8_at 1 (c b)) (drop 8 (c b)) ≡ Some d.entries
+      Read is_leaf top b d = see_entries κ (u8_at 1 (c b)) (drop 8 (c b)) ≡ Some d.entries
 
       Rise : Bool → Bool → ℕ → Node K → Type 0
-      Rise is_IsLeaf top b d = rises κ d.entries ≡ true
+      Rise is_leaf top b d = rises κ d.entries ≡ true
 
       Fit : Bool → Bool → ℕ → Node K → Type 0
-      Fit is_IsLeaf top b d = numbers_fit κ n is_IsLeaf d ≡ true
+      Fit is_leaf top b d = numbers_fit κ n is_leaf d ≡ true
 
       Past_least : Bool → Bool → ℕ → Node K → Type 0
       Past_least = Both Read (Both Rise Fit)

@@ -25,7 +25,7 @@ see_length {K} κ (suc n) bs es e = go (key_of κ bs) (see_entries κ n (past κ
 
 module _ (K : Type 0) (m : ℕ) where
   abbrev Filled : (h : ℕ) → Bool → Tree K h → Type 0
-  Filled = EachNode (λ is_IsLeaf top b d. least m top is_IsLeaf ≤ length d.entries)
+  Filled = EachNode (λ is_leaf top b d. least m top is_leaf ≤ length d.entries)
 
   row_many : (w h : ℕ) (xs : List (K × Tree K h)) → All (λ (x : K × Tree K h). w ≤ length (entries_of K h x.1)) xs → length xs * w ≤ length (flat_map (λ x. entries_of K h x.1) xs)
   row_many w h [] a = omega arith
@@ -60,14 +60,14 @@ module _ (K : Type 0) (m : ℕ) where
 module _ {K : Type 0} {κ : Kind K} {n size : ℕ} {c : ℕ → List ℕ} (S : Sound κ n size c) where
   filled : Filled K S.head.order S.height true S.tree
   filled =
-      each_map (Both Least Read) _ (λ is_IsLeaf top b d p. subst (λ (z : ℕ). least S.head.order top is_IsLeaf ≤ z) (sym (see_length κ (u8_at 1 (c b)) (drop 8 (c b)) d.entries p.1)) p.0) S.height true S.tree
+      each_map (Both Least Read) _ (λ is_leaf top b d p. subst (λ (z : ℕ). least S.head.order top is_leaf ≤ z) (sym (see_length κ (u8_at 1 (c b)) (drop 8 (c b)) d.entries p.1)) p.0) S.height true S.tree
       (each_both Least Read S.height true S.tree S.least_counts S.keys_read)
     where
       Least : Bool → Bool → ℕ → Node K → Type 0
-      Least is_IsLeaf top b d = least S.head.order top is_IsLeaf ≤ u8_at 1 (c b)
+      Least is_leaf top b d = least S.head.order top is_leaf ≤ u8_at 1 (c b)
 
       Read : Bool → Bool → ℕ → Node K → Type 0
-      Read is_IsLeaf top b d = see_entries κ (u8_at 1 (c b)) (drop 8 (c b)) ≡ Some d.entries
+      Read is_leaf top b d = see_entries κ (u8_at 1 (c b)) (drop 8 (c b)) ≡ Some d.entries
 
   pub many_keys : 2 ≤ S.head.levels → 2 * (least_leaf S.head.order * least_kids S.head.order ^ (S.head.levels - 2)) ≤ length (map_of S)
   many_keys l = tree_many K S.head.order S.height S.head.levels S.tree S.levels filled l

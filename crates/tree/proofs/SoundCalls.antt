@@ -47,7 +47,7 @@ module _ {K : Type 0} (κ : Kind K) (n : ℕ) where
       (ltb-true (block_of K h x.1) n (and_parts (ltb 0 (block_of K h x.1)) (ltb (block_of K h x.1) n) p.0).1, fits_inside h xs p.1)
 
   -- the way to a leaf stays inside the store
-  trail_inside : (L : Lawful κ) (h : ℕ) (top : Bool) (k : K) (t : Tree K h) → block_of K h t < n → EachNode (λ is_IsLeaf top b d. numbers_fit κ n is_IsLeaf d ≡ true) h top t
+  trail_inside : (L : Lawful κ) (h : ℕ) (top : Bool) (k : K) (t : Tree K h) → block_of K h t < n → EachNode (λ is_leaf top b d. numbers_fit κ n is_leaf d ≡ true) h top t
       → All (λ b. b < n) (trail κ h k t)
   trail_inside L zero top k t l f = (l, tt)
   trail_inside L (suc h) top k t l f =
@@ -56,7 +56,7 @@ module _ {K : Type 0} (κ : Kind K) (n : ℕ) where
         l,
         trail_inside L h false k (kid_for κ k t.first t.rest)
             (kid_has κ L k (λ (u : Tree K h). block_of K h u < n) t.first t.rest (ltb-true first n (and_parts (ltb 0 first) (ltb first n) p.0).1) (fits_inside h t.rest p.1))
-            (kid_has κ L k (EachNode (λ is_IsLeaf top b d. numbers_fit κ n is_IsLeaf d ≡ true) h false) t.first t.rest f.1 f.2),
+            (kid_has κ L k (EachNode (λ is_leaf top b d. numbers_fit κ n is_leaf d ≡ true) h false) t.first t.rest f.1 f.2),
       )
 
 module _ {K : Type 0} {κ : Kind K} {n size : ℕ} {c : ℕ → List ℕ} (S : Sound κ n size c) where

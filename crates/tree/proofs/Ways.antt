@@ -58,10 +58,10 @@ module _ {K : Type 0} (κ : Kind K) (n m : ℕ) (c : ℕ → List ℕ) where
       (rw (kid_block κ h k t.first t.rest)
       (ap (λ (z : List ℕ). t.block ∷ z) (walk_reads p k h false (kid_for κ k t.first t.rest) _ (kid_shows h k t.first t.rest s.1 s.2))))
 
-  node_answers : {P A : Type 0} (p : P) (is_IsLeaf : Bool) (low b : ℕ) (go : Node K → Plan P A) (d : Node K) → see_node κ n m is_IsLeaf low (c b) ≡ right d
-      → answer c (with_node κ n p m is_IsLeaf low b go) ≡ answer c (go d)
+  node_answers : {P A : Type 0} (p : P) (is_leaf : Bool) (low b : ℕ) (go : Node K → Plan P A) (d : Node K) → see_node κ n m is_leaf low (c b) ≡ right d
+      → answer c (with_node κ n p m is_leaf low b go) ≡ answer c (go d)
   unfolding answer
-  node_answers p is_IsLeaf low b go d s = ap (λ (z : Seen (Node K)). answer c (on_seen p b go z)) s
+  node_answers p is_leaf low b go d s = ap (λ (z : Seen (Node K)). answer c (on_seen p b go z)) s
 
   pub walk_answers : {P A : Type 0} (p : P) (k : K) (h : ℕ) (top : Bool) (t : Tree K h) (go : Found K → Plan P A) → Shows κ n m c h top t
       → answer c (walk κ n p m k h top (block_of K h t) go) ≡ answer c (go (found_in κ h k t))

@@ -8,7 +8,7 @@
 --   laid i m f                 m with each of the first i blocks written as f says
 --   format_after κ m order     what a store that means m means after a format with that order
 --   format_plan κ n size m     whether a format with the order m is carried out; it reads nothing
-use Rattle.std.specs.Prelude.{ℕ, zero, suc, ◌+◌, ◌-◌, Bool, true, cond, List, [], None, Option, ◌==◌, nat_lt}
+use Rattle.std.specs.Prelude.{ℕ, ◌+◌, ◌-◌, Bool, true, cond, List, [], None, Option, ◌==◌, nat_lt}
 use Rattle.keys.specs.Kind.{Kind}
 use Rattle.store.specs.Meaning.{Meaning}
 use Rattle.tree.specs.declared.head.Head.{Head}

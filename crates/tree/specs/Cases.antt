@@ -4,7 +4,7 @@
 --   Told                 what came of it
 --   told_script n xs     what comes of the steps xs, one after another, on a blank store of n blocks, each with the reading list
 --   table, expected      the cases and what they are to give
-use Rattle.std.specs.Prelude.{ℕ, ◌-◌, ◌^◌, Bool, true, false, List, [], ◌∷◌, ◌++◌, map, drop, replicate, ℤ, pos, negsuc, Some, None, Ok, Err, Option, Result}
+use Rattle.std.specs.Prelude.{ℕ, ◌-◌, ◌^◌, Bool, true, false, List, [], ◌∷◌, ◌++◌, map, drop, replicate, ℤ, pos, negsuc, Some, None, Ok, Err, Option}
 use Rattle.keys.specs.declared.moment.Moment.{Moment}
 use Rattle.keys.specs.Moments.{moment_at, moment_kind}
 use Rattle.std.specs.Option.{option_map}
@@ -14,8 +14,8 @@ use Rattle.tree.specs.Calls.{find_plan, format_after, format_plan}
 use Rattle.tree.specs.Entries.{see_entries}
 use Rattle.tree.specs.Fields.{u32_at, u8_at}
 use Rattle.tree.specs.Heads.{head_of}
-use Rattle.tree.specs.Inserts.{Writes, insert_plan, put_all}
-use Rattle.tree.specs.Plans.{Outcome, Plan, Stop, reading, run}
+use Rattle.tree.specs.Inserts.{insert_plan, put_all}
+use Rattle.tree.specs.Plans.{Outcome, Plan, reading, run}
 use Rattle.tree.specs.Ranges.{range_plan}
 use Rattle.tree.specs.Refusals.{numbered}
 use Rattle.tree.specs.Removes.{remove_plan}

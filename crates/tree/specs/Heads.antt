@@ -6,7 +6,7 @@
 --   rule_1 κ n size h           whether order, levels, root and first free block are within their bounds
 --   see_head κ n size bs        block 0 of n blocks seen as the head of an index of the kind κ, or the refusal
 --   write_head κ size h         the whole block that shows it
-use Rattle.std.specs.Prelude.{ℕ, ◌+◌, ◌-◌, ◌/◌, Bool, cond, ◌&&◌, List, [], ◌∷◌, ◌++◌, Ok, Err, Result, ◌==◌, nat_lt}
+use Rattle.std.specs.Prelude.{ℕ, ◌+◌, ◌-◌, ◌/◌, Bool, cond, ◌&&◌, List, ◌∷◌, ◌++◌, Ok, Err, Result, ◌==◌, nat_lt}
 use Rattle.keys.specs.Bytes.{big_endian}
 use Rattle.keys.specs.Kind.{Kind}
 use Rattle.tree.specs.declared.head.Head.{Head}

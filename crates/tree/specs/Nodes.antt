@@ -5,9 +5,9 @@
 --   Node K                       a link and entries: of a leaf the next leaf and the records, of an inner node
 --                                the first child and the children for keys from each key on
 --   least_leaf m, least_kids m   the least entries of a leaf and the least children of an inner node, where m is the order
---   least m top leaf?            the least entries of a node: the root or another, a leaf or an inner node
---   see_node κ n m leaf? low bs  a block of n seen as a node of low to m entries
---   write_node κ size leaf? d    the whole block that shows the node d
+--   least m top is_leaf          the least entries of a node: the root or another, a leaf or an inner node
+--   see_node κ n m is_leaf low bs  a block of n seen as a node of low to m entries
+--   write_node κ size is_leaf d  the whole block that shows the node d
 --   see_free n bs                a block of n seen as a free block: its link
 --   write_free size link         the whole block that shows it
 use Rattle.std.specs.Prelude.{ℕ, ◌+◌, ◌-◌, ◌/◌, Bool, true, false, ◌&&◌, List, [], ◌∷◌, ◌++◌, length, drop, Some, None, Option, ◌==◌, nat_le, nat_lt}
@@ -70,14 +70,14 @@ module _ {K : Type 0} (κ : Kind K) where
   node_with bs es = record { link = u32_at 4 bs; entries = es }
 
   unfoldable pub see_node : ℕ → ℕ → Bool → ℕ → List ℕ → Seen (Node K)
-  see_node n m is_IsLeaf low bs =
-      check 2 (u8_at 0 bs == tag_of is_IsLeaf)
+  see_node n m is_leaf low bs =
+      check 2 (u8_at 0 bs == tag_of is_leaf)
       (check 3 (nat_le low (u8_at 1 bs) && nat_le (u8_at 1 bs) m)
-      (or_wrong 4 (λ es. check 4 (rises κ es) (check 5 (numbers_fit n is_IsLeaf (node_with bs es)) (right (node_with bs es))))
+      (or_wrong 4 (λ es. check 4 (rises κ es) (check 5 (numbers_fit n is_leaf (node_with bs es)) (right (node_with bs es))))
       (see_entries κ (u8_at 1 bs) (drop 8 bs))))
 
   abbrev pub write_node : ℕ → Bool → Node K → List ℕ
-  write_node size is_IsLeaf d = padded size (tag_of is_IsLeaf ∷ length d.entries ∷ 0 ∷ 0 ∷ (big_endian 4 d.link ++ write_entries κ d.entries))
+  write_node size is_leaf d = padded size (tag_of is_leaf ∷ length d.entries ∷ 0 ∷ 0 ∷ (big_endian 4 d.link ++ write_entries κ d.entries))
 
 abbrev pub see_free : ℕ → List ℕ → Seen ℕ
 see_free n bs = check 2 (u8_at 0 bs == free_tag) (check 3 (u8_at 1 bs == 0) (check 5 (nat_lt (u32_at 4 bs) n) (right (u32_at 4 bs))))

@@ -72,81 +72,81 @@ module _ {K : Type 0} where
   from_right false l s r e rest = balanced (node l.link (l.entries ++ (s, r.link) ∷ [])) e.0 (node e.1 rest)
 
   abbrev pub give_left : Bool → Node K → K → Node K → Option (List (K × ℕ) × (K × ℕ)) → Mended K
-  give_left is_IsLeaf l s r None = merged (joined_up is_IsLeaf l s r)
-  give_left is_IsLeaf l s r (Some x) = from_left is_IsLeaf l s r x.0 x.1
+  give_left is_leaf l s r None = merged (joined_up is_leaf l s r)
+  give_left is_leaf l s r (Some x) = from_left is_leaf l s r x.0 x.1
 
   abbrev pub give_right : Bool → Node K → K → Node K → List (K × ℕ) → Mended K
-  give_right is_IsLeaf l s r [] = merged (joined_up is_IsLeaf l s r)
-  give_right is_IsLeaf l s r (e ∷ es) = from_right is_IsLeaf l s r e es
+  give_right is_leaf l s r [] = merged (joined_up is_leaf l s r)
+  give_right is_leaf l s r (e ∷ es) = from_right is_leaf l s r e es
 
   -- a neighbour gives only where it has more than its least
   abbrev pub mend_left : Bool → ℕ → Node K → K → Node K → Mended K
-  mend_left is_IsLeaf low l s r = cond (nat_lt low (length l.entries)) (give_left is_IsLeaf l s r (ends l.entries)) (merged (joined_up is_IsLeaf l s r))
+  mend_left is_leaf low l s r = cond (nat_lt low (length l.entries)) (give_left is_leaf l s r (ends l.entries)) (merged (joined_up is_leaf l s r))
 
   abbrev pub mend_right : Bool → ℕ → Node K → K → Node K → Mended K
-  mend_right is_IsLeaf low l s r = cond (nat_lt low (length r.entries)) (give_right is_IsLeaf l s r r.entries) (merged (joined_up is_IsLeaf l s r))
+  mend_right is_leaf low l s r = cond (nat_lt low (length r.entries)) (give_right is_leaf l s r r.entries) (merged (joined_up is_leaf l s r))
 
 module _ {K : Type 0} (κ : Kind K) (n size : ℕ) where
   -- the parent f, whose entry for the right one of the pair stands between pre and post
   abbrev pub settle : Bool → Frame K → List (K × ℕ) → ℕ → List (K × ℕ) → Pending K → Mended K → Pending K
-  settle is_IsLeaf f pre right-block post r (balanced a s b) = record {
+  settle is_leaf f pre right-block post r (balanced a s b) = record {
     block = f.block;
     node = node f.link (pre ++ (s, right-block) ∷ post);
     changed = true;
-    writes = (last_kid f.link pre, write_node κ size is_IsLeaf a) ∷ (right-block, write_node κ size is_IsLeaf b) ∷ r.writes;
+    writes = (last_kid f.link pre, write_node κ size is_leaf a) ∷ (right-block, write_node κ size is_leaf b) ∷ r.writes;
     front = r.front;
     freed = r.freed;
   }
-  settle is_IsLeaf f pre right-block post r (merged a) = record {
+  settle is_leaf f pre right-block post r (merged a) = record {
     block = f.block;
     node = node f.link (pre ++ post);
     changed = true;
-    writes = (last_kid f.link pre, write_node κ size is_IsLeaf a) ∷ (right-block, write_free size r.front) ∷ r.writes;
+    writes = (last_kid f.link pre, write_node κ size is_leaf a) ∷ (right-block, write_free size r.front) ∷ r.writes;
     front = right-block;
     freed = r.freed + 1;
   }
 
   abbrev pub flushed : Bool → Pending K → Writes
-  flushed is_IsLeaf r = cond r.changed ((r.block, write_node κ size is_IsLeaf r.node) ∷ r.writes) r.writes
+  flushed is_leaf r = cond r.changed ((r.block, write_node κ size is_leaf r.node) ∷ r.writes) r.writes
 
   abbrev pub calm : Bool → Frame K → Pending K → Pending K
-  calm is_IsLeaf f r = record {
+  calm is_leaf f r = record {
     block = f.block;
     node = node f.link (f.before ++ f.behind);
     changed = false;
-    writes = flushed is_IsLeaf r;
+    writes = flushed is_leaf r;
     front = r.front;
     freed = r.freed;
   }
 
   -- there is no left neighbour: the right one, if there is one
   abbrev pub mend_beside : {A : Type 0} → ℕ → Bool → Frame K → Pending K → (Pending K → Plan Unit A) → List (K × ℕ) → Plan Unit A
-  mend_beside m is_IsLeaf f r go [] = go (calm is_IsLeaf f r)
-  mend_beside m is_IsLeaf f r go (e ∷ es) =
-      with_node κ n tt m is_IsLeaf (least m false is_IsLeaf) e.1
-      (λ d. go (settle is_IsLeaf f [] e.1 es r (mend_right is_IsLeaf (least m false is_IsLeaf) r.node e.0 d)))
+  mend_beside m is_leaf f r go [] = go (calm is_leaf f r)
+  mend_beside m is_leaf f r go (e ∷ es) =
+      with_node κ n tt m is_leaf (least m false is_leaf) e.1
+      (λ d. go (settle is_leaf f [] e.1 es r (mend_right is_leaf (least m false is_leaf) r.node e.0 d)))
 
   abbrev pub mend_short : {A : Type 0} → ℕ → Bool → Frame K → Pending K → (Pending K → Plan Unit A) → Option (List (K × ℕ) × (K × ℕ)) → Plan Unit A
-  mend_short m is_IsLeaf f r go None = mend_beside m is_IsLeaf f r go f.behind
-  mend_short m is_IsLeaf f r go (Some x) =
-      with_node κ n tt m is_IsLeaf (least m false is_IsLeaf) (last_kid f.link x.0)
-      (λ d. go (settle is_IsLeaf f x.0 x.1.1 f.behind r (mend_left is_IsLeaf (least m false is_IsLeaf) d x.1.0 r.node)))
+  mend_short m is_leaf f r go None = mend_beside m is_leaf f r go f.behind
+  mend_short m is_leaf f r go (Some x) =
+      with_node κ n tt m is_leaf (least m false is_leaf) (last_kid f.link x.0)
+      (λ d. go (settle is_leaf f x.0 x.1.1 f.behind r (mend_left is_leaf (least m false is_leaf) d x.1.0 r.node)))
 
   abbrev pub mend_frame : {A : Type 0} → ℕ → Bool → Frame K → Pending K → (Pending K → Plan Unit A) → Plan Unit A
-  mend_frame m is_IsLeaf f r go =
-      cond (nat_le (least m false is_IsLeaf) (length r.node.entries)) (go (calm is_IsLeaf f r)) (mend_short m is_IsLeaf f r go (ends f.before))
+  mend_frame m is_leaf f r go =
+      cond (nat_le (least m false is_leaf) (length r.node.entries)) (go (calm is_leaf f r)) (mend_short m is_leaf f r go (ends f.before))
 
   abbrev pub mend : {A : Type 0} → ℕ → Pending K → List (Frame K) → (Pending K → Plan Unit A) → Plan Unit A
   mend m r [] go = go r
   mend m r (f ∷ fs) go = mend m r fs (λ q. mend_frame m (is_nil fs) f q go)
 
   abbrev pub removed : Head → Bool → Pending K → Writes
-  removed h is_IsLeaf r =
-      cond (not is_IsLeaf && is_nil r.node.entries)
+  removed h is_leaf r =
+      cond (not is_leaf && is_nil r.node.entries)
       ((0, write_head κ size (record { order = h.order; levels = h.levels - 1; root = r.node.link; first_free = r.block; free_count = h.free_count + (r.freed + 1); key_count = h.key_count - 1 }))
       ∷ (r.block, write_free size r.front) ∷ r.writes)
       ((0, write_head κ size (record { order = h.order; levels = h.levels; root = h.root; first_free = r.front; free_count = h.free_count + r.freed; key_count = h.key_count - 1 }))
-      ∷ flushed is_IsLeaf r)
+      ∷ flushed is_leaf r)
 
   abbrev pub taken_out : K → Head → Found K → Pending K
   taken_out k h f = record {

@@ -42,7 +42,7 @@ pub record Sound {K : Type 0} (κ : Kind K) (n size : ℕ) (c : ℕ → List ℕ
   pub levels : head.levels ≡ suc height
   pub tree : Tree K height
   pub root : block_of K height tree ≡ head.root
-  pub links_shown : EachNode (λ is_IsLeaf top b d. u32_at 4 (c b) ≡ d.link) height true tree
+  pub links_shown : EachNode (λ is_leaf top b d. u32_at 4 (c b) ≡ d.link) height true tree
   -- the free list that the file shows, from the head's first free block on
   pub free : List ℕ
   pub free_shown : Chain c head.first_free free
@@ -53,18 +53,18 @@ pub record Sound {K : Type 0} (κ : Kind K) (n size : ℕ) (c : ℕ → List ℕ
   pub root_bounds : (1 ≤ head.root) × (head.root < n)
   pub first_free_bound : head.first_free < n
   -- rule 2: the blocks at the last level are leaves, those above are inner nodes, those on the free list are free
-  pub node_tags : EachNode (λ is_IsLeaf top b d. u8_at 0 (c b) ≡ tag_of is_IsLeaf) height true tree
+  pub node_tags : EachNode (λ is_leaf top b d. u8_at 0 (c b) ≡ tag_of is_leaf) height true tree
   pub free_tags : All (λ b. u8_at 0 (c b) ≡ free_tag) free
   -- rule 3: a node has at most m entries, where m is the order. Outside the root a leaf has at least ⌈m/2⌉ and an inner node at least
   -- ⌈(m+1)/2⌉ - 1; an inner root has at least 1. A free block has 0.
-  pub most_counts : EachNode (λ is_IsLeaf top b d. u8_at 1 (c b) ≤ head.order) height true tree
-  pub least_counts : EachNode (λ is_IsLeaf top b d. least head.order top is_IsLeaf ≤ u8_at 1 (c b)) height true tree
+  pub most_counts : EachNode (λ is_leaf top b d. u8_at 1 (c b) ≤ head.order) height true tree
+  pub least_counts : EachNode (λ is_leaf top b d. least head.order top is_leaf ≤ u8_at 1 (c b)) height true tree
   pub free_counts : All (λ b. u8_at 1 (c b) ≡ 0) free
   -- rule 4: the keys of a node can be read, and they rise strictly
-  pub keys_read : EachNode (λ is_IsLeaf top b d. see_entries κ (u8_at 1 (c b)) (drop 8 (c b)) ≡ Some d.entries) height true tree
-  pub keys_rise : EachNode (λ is_IsLeaf top b d. rises κ d.entries ≡ true) height true tree
+  pub keys_read : EachNode (λ is_leaf top b d. see_entries κ (u8_at 1 (c b)) (drop 8 (c b)) ≡ Some d.entries) height true tree
+  pub keys_rise : EachNode (λ is_leaf top b d. rises κ d.entries ≡ true) height true tree
   -- rule 5: children are blocks past the head, and the links of leaves and free blocks are below n
-  pub numbers_bounds : EachNode (λ is_IsLeaf top b d. numbers_fit κ n is_IsLeaf d ≡ true) height true tree
+  pub numbers_bounds : EachNode (λ is_leaf top b d. numbers_fit κ n is_leaf d ≡ true) height true tree
   pub free_links : All (λ b. u32_at 4 (c b) < n) free
   -- rule 6: every key in any node below a child is at least the separator before it and less than the one after it
   pub parted : Parted κ height tree

@@ -86,7 +86,7 @@ module _ {K : Type 0} (κ : Kind K) where
   Parted (suc h) t = Kids (λ lo hi. Within lo hi h) None None t.first t.rest × Parted h t.first × All (λ x. Parted h x.1) t.rest
 
   abbrev pub Shows : ℕ → ℕ → (ℕ → List ℕ) → (h : ℕ) → Bool → Tree K h → Type 0
-  Shows n m c = EachNode (λ is_IsLeaf top b d. see_node κ n m is_IsLeaf (least m top is_IsLeaf) (c b) ≡ right d)
+  Shows n m c = EachNode (λ is_leaf top b d. see_node κ n m is_leaf (least m top is_leaf) (c b) ≡ right d)
 
   abbrev pub kid_for : {T : Type 0} → K → T → List (K × T) → T
   kid_for k t [] = t

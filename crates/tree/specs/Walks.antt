@@ -4,7 +4,7 @@
 --   Found K                 the way to a leaf, from the root, and the leaf
 --   last_kid b es           the last child of those that begin with b
 --   with_head κ n size p go       read the head, and go on with it
---   with_node κ n p m leaf? low b go      read block b as a node, and go on with it
+--   with_node κ n p m is_leaf low b go    read block b as a node, and go on with it
 --   walk κ n p m k h top b go     go from block b, h levels above the leaves, to the leaf of k, and go on with what was found
 use Rattle.std.specs.Prelude.{ℕ, zero, suc, Bool, true, false, cond, ◌&&◌, List, [], ◌∷◌, Ok, Err, Result, nat_le}
 use Rattle.keys.specs.Kind.{Kind}
@@ -55,7 +55,7 @@ module _ {K : Type 0} (κ : Kind K) (n size : ℕ) where
 
 module _ {K : Type 0} (κ : Kind K) (n : ℕ) where
   abbrev pub with_node : {P A : Type 0} → P → ℕ → Bool → ℕ → ℕ → (Node K → Plan P A) → Plan P A
-  with_node p m is_IsLeaf low b go = look p b (λ bs. on_seen p b go (see_node κ n m is_IsLeaf low bs))
+  with_node p m is_leaf low b go = look p b (λ bs. on_seen p b go (see_node κ n m is_leaf low bs))
 
   unfoldable pub walk : {P A : Type 0} → P → ℕ → K → ℕ → Bool → ℕ → (Found K → Plan P A) → Plan P A
   walk p m k zero top b go = with_node p m true (least m top true) b (λ d. go (record { path = []; leaf = b; node = d }))

@@ -1,12 +1,11 @@
 -- Batches: one block more, and the writes made.
-use Rattle.std.proofs.Common.{◌≡◌, ℕ, zero, suc, ◌+◌, ◌-◌, ◌<◌, ◌≤◌, Bool, true, false, ◌||◌, eqb, ltb, List, [], ◌∷◌, length, get_or, take, set, Some, None, Option, Result, sym, refl, ap, ◌∙◌, add-one, arith, length-take, get_or-set_other, get_or-set_same}
-use Rattle.std.proofs.lemmas.List.{take_all}
+use Rattle.std.proofs.Common.{◌≡◌, ℕ, zero, suc, ◌+◌, ◌-◌, ◌<◌, ◌≤◌, true, false, List, [], ◌∷◌, length, get_or, take, set, Some, None, Result, sym, refl, ap, ◌∙◌, add-one, arith, length-take, get_or-set_other, get_or-set_same}
 use Rattle.std.proofs.lemmas.Bool.{eq-eqb, lt-ltb, ne_eqb}
 use Rattle.std.specs.List.{AllByRecursion as All}
 use Rattle.store.specs.declared.fault.Fault.{Fault}
-use Rattle.store.specs.Calls.{Wrote, misuse, unless}
+use Rattle.store.specs.Calls.{Wrote, misuse}
 use Rattle.store.specs.Meaning.{Meaning, written}
-use Rattle.tree.specs.Inserts.{or_repeated, put_all, repeated, stands}
+use Rattle.tree.specs.Inserts.{put_all, repeated, stands}
 use Rattle.update.specs.Batches.{first_writes}
 
 -- a change past the first n leaves them

@@ -1,5 +1,5 @@
 -- The free list, read block by block.
-use Rattle.std.proofs.Common.{◌≡◌, ℕ, zero, suc, ◌+◌, ◌-◌, ◌<◌, ◌≤◌, Bool, true, false, List, [], ◌∷◌, ◌++◌, length, Some, None, Ok, Err, Option, Result, sym, refl, ap, ◌∙◌, arith}
+use Rattle.std.proofs.Common.{◌≡◌, ℕ, suc, ◌+◌, ◌-◌, ◌<◌, ◌≤◌, List, [], ◌∷◌, ◌++◌, Some, None, Ok, Err, Option, Result, sym, refl, ap, ◌∙◌, arith}
 use Rattle.keys.specs.Kind.{Kind}
 use Rattle.std.proofs.lemmas.List.{append_assoc, append-nil}
 use Rattle.std.proofs.lemmas.Bool.{le-leb}
@@ -11,7 +11,7 @@ use Rattle.tree.specs.declared.refusal.Refusal.TheVariants.{Broken, Unreadable}
 use Rattle.tree.specs.Inserts.{with_frees}
 use Rattle.tree.specs.Nodes.{Seen, see_free}
 use Rattle.tree.specs.Nodes.Seen.{wrong, right}
-use Rattle.tree.specs.Plans.{Plan, Stop, bare, on_read, run}
+use Rattle.tree.specs.Plans.{Stop, bare, on_read, run}
 use Rattle.tree.specs.Plans.Plan.{done}
 use Rattle.tree.specs.Walks.{on_seen}
 use Rattle.update.specs.Frees.{free_answer, frees_from}

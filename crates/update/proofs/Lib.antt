@@ -1,3 +1,4 @@
 pub mod Batches
 pub mod Frees
+pub mod Growing
 pub mod RowBytes

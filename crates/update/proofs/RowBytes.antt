@@ -1,10 +1,8 @@
 -- Rows of bytes put together.
-use Rattle.std.proofs.Common.{◌≡◌, ℕ, ◌+◌, ◌-◌, ◌<◌, ◌≤◌, List, [], ◌∷◌, ◌++◌, length, get_or, take, drop, set, replicate, sym, refl, ap, ◌∙◌, arith, length-append, rules}
-use Rattle.page.proofs.Fills.{drop_zeros}
+use Rattle.std.proofs.Common.{◌≡◌, ℕ, ◌+◌, ◌<◌, ◌≤◌, List, [], ◌∷◌, ◌++◌, length, get_or, take, drop, set, sym, ap, ◌∙◌, arith, length-append, rules}
 use Rattle.page.proofs.Gathers.{overlaid_twice}
 use Rattle.std.proofs.lemmas.List.{append_assoc, append-nil, drop_all, drop-drop, places, same_lists, take_more_set}
 use Rattle.store.specs.Bytes.{overlaid}
-use Rattle.tree.specs.Fields.{padded}
 
 -- a list put over the whole of another
 overlaid_whole : (xs ys : List ℕ) → length ys ≡ length xs → overlaid xs 0 ys ≡ ys

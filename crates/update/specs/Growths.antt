@@ -3,7 +3,7 @@
 --   then plan go              a plan, and then go with what it answers
 --   Sprout K                  what an insert made of the way from a block down: the nodes that were split, the block that the
 --                             free list then begins with, and how many blocks were needed
---   full? m d                 whether a node has no room for one entry more
+--   is_full m d                 whether a node has no room for one entry more
 --   need_here full run all    how many blocks are needed where the leaf is full or not: `run` full nodes stand right above it, and
 --                             `all` says whether all above it are full
 --   sprout κ n size h k v l top run all b    from block b, l levels above the leaves, down and up again
@@ -11,16 +11,14 @@
 --   up-entry κ o r bs         an entry that goes up, in bytes: r says whether there is one
 --   Sprung κ size g batch spare r bs     memory holds what grew: the writes, the blocks left, and what goes up
 --   Sprouted                  the plan of sprout was run: the answer, memory and the store afterwards
-use Rattle.std.specs.Prelude.{◌≡◌, ℕ, zero, suc, ◌+◌, ◌-◌, Bool, true, false, cond, ◌&&◌, List, [], ◌∷◌, ◌++◌, length, Some, None, Ok, Err, Option, Result, nat_le}
+use Rattle.std.specs.Prelude.{ℕ, zero, suc, ◌+◌, Bool, true, false, ◌&&◌, length, nat_le}
 use Rattle.keys.specs.Kind.{Kind}
-use Rattle.store.specs.Meaning.{Meaning}
 use Rattle.tree.specs.declared.head.Head.{Head}
-use Rattle.tree.specs.declared.refusal.Refusal.{Refusal}
 use Rattle.tree.specs.declared.refusal.Refusal.TheVariants.{NoRoom}
-use Rattle.tree.specs.Entries.{lookup, part, write_entries}
-use Rattle.tree.specs.Inserts.{Grown, Writes, grow_frame, grow_leaf, if_new, insert_entry, inserted, once_each, when, with_frees}
+use Rattle.tree.specs.Entries.{lookup, part}
+use Rattle.tree.specs.Inserts.{Grown, Writes, grow_frame, grow_leaf, if_new, insert_entry, inserted, when, with_frees}
 use Rattle.tree.specs.Nodes.{Node, least}
-use Rattle.tree.specs.Plans.{Plan, bare, run}
+use Rattle.tree.specs.Plans.{Plan, run}
 use Rattle.tree.specs.Plans.Plan.{done, look, refuse}
 use Rattle.tree.specs.Walks.{Frame, last_kid, with_node}
 
@@ -34,8 +32,8 @@ pub record Sprout (K : Type 0) : Type 0 where
   pub rest : ℕ
   pub need : ℕ
 
-abbrev pub full? : {K : Type 0} → ℕ → Node K → Bool
-full? m d = nat_le m (length d.entries)
+abbrev pub is_full : {K : Type 0} → ℕ → Node K → Bool
+is_full m d = nat_le m (length d.entries)
 
 abbrev pub one_if : Bool → ℕ
 one_if true = 1
@@ -69,10 +67,10 @@ module _ {K : Type 0} (κ : Kind K) (n size : ℕ) (h : Head) (k : K) (v : ℕ) 
   kid_of d = last_kid d.link (part κ k d.entries).low
 
   unfoldable pub sprout : ℕ → Bool → ℕ → Bool → ℕ → Plan Unit (Sprout K)
-  sprout zero top run all b = with_node κ n tt h.order true (least h.order top true) b (λ d. sprout_leaf (need_here (full? h.order d) run all) b d)
+  sprout zero top run all b = with_node κ n tt h.order true (least h.order top true) b (λ d. sprout_leaf (need_here (is_full h.order d) run all) b d)
   sprout (suc l) top run all b =
       with_node κ n tt h.order false (least h.order top false) b
-      (λ d. then (sprout l false (run_on (full? h.order d) run) (full? h.order d && all) (kid_of d)) (λ s. done (sprout_up b d s)))
+      (λ d. then (sprout l false (run_on (is_full h.order d) run) (is_full h.order d && all) (kid_of d)) (λ s. done (sprout_up b d s)))
 
   abbrev pub finished : Sprout K → Writes
   finished s = inserted κ n size h s.need s.rest s.grown

@@ -1,4 +1,4 @@
-use Rattle.std.proofs.Common.{◌≡◌, ◌+◌, ◌-◌, length, Ok, Err, sym, refl, ap, ◌∙◌, subst, arith}
+use Rattle.std.proofs.Common.{◌-◌, ap, ◌∙◌, arith}
 use Rattle.index.proofs.Steps.{find_reached, find_step, find_stopped, head_room, head_stop, leaf_room}
 use Rattle.index.proofs.find.find_below.Goals as goal
 use Rattle.std.proofs.lemmas.Result.{err_from_is_err_and}

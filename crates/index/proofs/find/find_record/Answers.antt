@@ -1,4 +1,4 @@
-use Rattle.std.proofs.Common.{◌≡◌, ℕ, Bool, cond, ◌&&◌, leb, sym, refl, ap, ◌∙◌, rules}
+use Rattle.std.proofs.Common.{rules}
 use Rattle.index.proofs.Steps.{unfit}
 use Rattle.index.proofs.find.find_record.Goals as goal
 

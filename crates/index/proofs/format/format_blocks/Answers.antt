@@ -1,4 +1,4 @@
-use Rattle.std.proofs.Common.{◌≡◌, refl, ap, ◌∙◌}
+use Rattle.std.proofs.Common.{refl, ap, ◌∙◌}
 use Rattle.index.proofs.Laying.{all_laid, unfit_order, unfit_store}
 use Rattle.index.proofs.format.format_blocks.Goals as goal
 use Rattle.store.specs.Meaning.{Meaning}

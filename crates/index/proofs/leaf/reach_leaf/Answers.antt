@@ -1,4 +1,4 @@
-use Rattle.std.proofs.Common.{◌≡◌, ℕ, ◌+◌, ◌-◌, Bool, true, false, length, Ok, Err, Result, sym, refl, ap, ◌∙◌, subst, arith}
+use Rattle.std.proofs.Common.{◌≡◌, ℕ, ◌+◌, ◌-◌, true, false, Ok, Err, Result, sym, refl, ap, ◌∙◌, subst, arith}
 use Rattle.index.proofs.Steps.{inner_step, inner_stop, leaf_step, leaf_stop, roomy}
 use Rattle.index.proofs.leaf.reach_leaf.Goals as goal
 use Rattle.index.specs.Leaves.{Reached, leaf_from}
@@ -6,7 +6,7 @@ use Rattle.std.proofs.lemmas.Result.{err_from_is_err_and}
 use Rattle.store.specs.Meaning.{Meaning}
 use Rattle.tree.specs.declared.refusal.Refusal.{Refusal}
 use Rattle.tree.specs.Nodes.{least, see_node}
-use Rattle.tree.specs.Plans.{bare, run}
+use Rattle.tree.specs.Plans.{run}
 
 pub loop-level-init : goal.loop-level-init
 loop-level-init g c = (refl, c.requires.0, c.requires.1.0, refl, refl)

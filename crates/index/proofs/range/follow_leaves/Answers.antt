@@ -1,10 +1,8 @@
-use Rattle.std.proofs.Common.{◌≡◌, ℕ, ◌+◌, ◌-◌, ◌*◌, ◌/◌, ◌≤◌, true, false, [], length, Ok, Err, sym, refl, ap, ◌∙◌, arith}
-use Rattle.index.proofs.Ranging.{Going, begins, ends_here, ends_last, goes_round, next_goes, next_stops}
+use Rattle.std.proofs.Common.{◌≡◌, ℕ, ◌+◌, ◌-◌, true, false, length, Ok, Err, sym, refl, ap, ◌∙◌, arith}
+use Rattle.index.proofs.Ranging.{begins, ends_here, ends_last, goes_round, next_goes, next_stops}
 use Rattle.index.proofs.Steps.{roomy}
 use Rattle.index.proofs.range.follow_leaves.Goals as goal
 use Rattle.store.specs.Meaning.{Meaning}
-use Rattle.tree.specs.Plans.{run}
-use Rattle.tree.specs.Ranges.{chase, follow}
 
 pub leaves-init : goal.leaves-init
 leaves-init g c =

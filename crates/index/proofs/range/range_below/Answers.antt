@@ -1,4 +1,4 @@
-use Rattle.std.proofs.Common.{◌≡◌, ℕ, ◌+◌, ◌-◌, [], length, sym, refl, ap, ◌∙◌, arith}
+use Rattle.std.proofs.Common.{◌≡◌, [], length, sym, ap, ◌∙◌, arith}
 use Rattle.index.proofs.RangeSteps.{first_reached, leaf_there, not_reached, nothing_yet}
 use Rattle.index.proofs.Steps.{head_room, head_stop, leaf_room}
 use Rattle.index.proofs.range.range_below.Goals as goal

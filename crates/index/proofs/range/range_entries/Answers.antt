@@ -1,4 +1,4 @@
-use Rattle.std.proofs.Common.{◌≡◌, ℕ, ◌+◌, ◌/◌, [], length, sym, subst}
+use Rattle.std.proofs.Common.{◌+◌, ◌/◌, [], length, subst}
 use Rattle.index.proofs.RangeSteps.{nothing_yet, range_crossed, range_opens}
 use Rattle.index.proofs.Steps.{unfit}
 use Rattle.index.proofs.range.range_entries.Goals as goal

@@ -1,4 +1,4 @@
-use Rattle.std.proofs.Common.{◌≡◌, ℕ, ◌+◌, List, [], ◌∷◌, ◌++◌, length, replicate, sym, ap, ◌∙◌, arith}
+use Rattle.std.proofs.Common.{◌≡◌, ℕ, List, ◌∷◌, length, replicate, ap, ◌∙◌, arith}
 use Rattle.keys.specs.Bytes.{big_endian}
 use Rattle.store.specs.Bytes.{overlaid}
 use Rattle.tree.specs.Nodes.{tag_of}
@@ -11,5 +11,5 @@ returns c =
     let es = c.args.entries.now in
     let hd : List ℕ = tag_of c.args.leaf ∷ c.args.count ∷ 0 ∷ 0 ∷ big_endian 4 c.args.link in
     let z : c.clear.new.page ≡ replicate n 0 = c.clear.ensures in
-    let a : c.overlay.new.slice ≡ overlaid c.clear.new.page 0 hd = c.overlay.ensures ∙ rw (c.tag.ensures, c.u32_bytes-link.ensures) in
+    let a : c.overlay.new.slice ≡ overlaid c.clear.new.page 0 hd = c.overlay.ensures ∙ rw (c.tag.ensures, c.u32_bytes.ensures) in
     c.overlay-2.ensures ∙ (ap (λ (x : List ℕ). overlaid x 8 es) (a ∙ ap (λ (x : List ℕ). overlaid x 0 hd) z) ∙ padded_by n hd es (let h = c.requires in omega arith))

@@ -1,4 +1,4 @@
-use Rattle.std.proofs.Common.{◌≡◌, true, false, length, sym, refl, rules}
+use Rattle.std.proofs.Common.{true, false, length, rules}
 use Rattle.tree.specs.Heads.{see_head}
 use Rattle.page.proofs.HeadSeen.{head_seen}
 use Rattle.page.proofs.head.examine_head.Goals as goal

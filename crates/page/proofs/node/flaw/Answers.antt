@@ -1,4 +1,4 @@
-use Rattle.std.proofs.Common.{◌≡◌, ℕ, ◌+◌, length, get_or, sym, refl, ap, ◌∙◌, arith, rules}
+use Rattle.std.proofs.Common.{◌+◌, length, get_or, rules}
 use Rattle.page.proofs.Seen.{flaw_is, count_fits}
 use Rattle.page.proofs.node.flaw.Goals as goal
 

@@ -1,6 +1,5 @@
-use Rattle.std.proofs.Common.{◌≡◌, ℕ, ◌+◌, ◌-◌, ◌*◌, ◌<◌, Bool, true, false, cond, length, Some, None, sym, refl, ap, ◌∙◌, ⊎_elim, arith, rules}
+use Rattle.std.proofs.Common.{rules}
 use Rattle.page.proofs.RowSteps.{row_fits, from_start, kids_more, kids_all}
-use Rattle.std.proofs.lemmas.Bool.{lt-ltb, le-ltb}
 use Rattle.page.specs.Rows.{kids_within}
 use Rattle.page.proofs.rows.all_blocks.Goals as goal
 

@@ -1,4 +1,4 @@
-use Rattle.std.proofs.Common.{◌≡◌, ◌-◌, Some, None}
+use Rattle.std.proofs.Common.{◌≡◌, ◌-◌}
 use Rattle.page.specs.Rows.{kids_within, row}
 use Rattle.page.proofs.rows.all_blocks.Given as goal
 

@@ -1,4 +1,4 @@
-use Rattle.std.proofs.Common.{◌≡◌, ◌-◌, Some, None}
+use Rattle.std.proofs.Common.{◌≡◌, ◌-◌}
 use Rattle.page.specs.Rows.{kid_at, row}
 use Rattle.page.proofs.rows.child_for.Given as goal
 

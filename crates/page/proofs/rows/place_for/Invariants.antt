@@ -1,4 +1,4 @@
-use Rattle.std.proofs.Common.{◌≡◌, ◌-◌, Some, None}
+use Rattle.std.proofs.Common.{◌≡◌, ◌-◌}
 use Rattle.page.specs.Rows.{place_at, row}
 use Rattle.page.proofs.rows.place_for.Given as goal
 

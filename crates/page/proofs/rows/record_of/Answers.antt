@@ -1,4 +1,4 @@
-use Rattle.std.proofs.Common.{◌≡◌, ℕ, ◌+◌, ◌-◌, ◌*◌, ◌<◌, Bool, true, false, cond, length, Some, None, sym, refl, ap, ◌∙◌, arith, rules}
+use Rattle.std.proofs.Common.{rules}
 use Rattle.page.proofs.RowSteps.{row_fits, from_start, record_more, record_all}
 use Rattle.page.specs.Rows.{record_at}
 use Rattle.page.proofs.rows.record_of.Goals as goal

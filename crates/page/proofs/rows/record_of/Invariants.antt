@@ -1,4 +1,4 @@
-use Rattle.std.proofs.Common.{◌≡◌, ◌-◌, Some, None}
+use Rattle.std.proofs.Common.{◌≡◌, ◌-◌}
 use Rattle.page.specs.Rows.{record_at, row}
 use Rattle.page.proofs.rows.record_of.Given as goal
 

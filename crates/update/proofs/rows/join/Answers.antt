@@ -1,4 +1,4 @@
-use Rattle.std.proofs.Common.{◌≡◌, ◌+◌, List, length, ap, ◌∙◌}
+use Rattle.std.proofs.Common.{◌+◌, List, length, ap, ◌∙◌}
 use Rattle.store.specs.Bytes.{overlaid}
 use Rattle.update.proofs.RowBytes.{joined_three}
 use Rattle.update.proofs.rows.join.Goals as goal

@@ -1,8 +1,8 @@
-use Rattle.std.proofs.Common.{◌≡◌, List, length, None, Ok, ap, ◌∙◌, arith}
+use Rattle.std.proofs.Common.{◌≡◌, length, None, Ok, ap, ◌∙◌, arith}
 use Rattle.std.proofs.lemmas.Bool.Decides.{nat_tests}
 use Rattle.store.specs.Calls.{misuse, answered, unless}
 use Rattle.store.specs.Meaning.{Meaning, written}
-use Rattle.layers.specs.Checks.{check, sealed}
+use Rattle.layers.specs.Checks.{check}
 use Rattle.layers.proofs.Seals.{check_written}
 use Rattle.layers.proofs.check.Check.put_sealed.Goals as goal
 

@@ -1,4 +1,4 @@
-use Rattle.std.proofs.Common.{◌≡◌, ◌*◌, length, sym, ap, ◌∙◌, subst, arith}
+use Rattle.std.proofs.Common.{◌*◌, length, sym, ap, ◌∙◌, subst, arith}
 use Rattle.store.specs.Bytes.{Bytes}
 use Rattle.store.specs.Blocks.{overlaid_bytes, overlaid_length}
 use Rattle.store.proofs.Views.{kept_written}

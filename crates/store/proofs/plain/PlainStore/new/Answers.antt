@@ -1,4 +1,4 @@
-use Rattle.std.proofs.Common.{◌*◌, ◌/◌, ◌≤◌, arith, rules}
+use Rattle.std.proofs.Common.{◌/◌, ◌≤◌, arith, rules}
 use Rattle.std.proofs.lemmas.Nat.{mul-le, div-add-mod'}
 use Rattle.store.proofs.plain.PlainStore.new.Goals as goal
 

@@ -1,4 +1,4 @@
-use Rattle.std.proofs.Common.{◌≡◌, length, vec_items, sym, ap, ◌∙◌, arith}
+use Rattle.std.proofs.Common.{vec_items, sym, ap, ◌∙◌, arith}
 use Rattle.store.specs.Meaning.{Meaning}
 use Rattle.store.specs.PlainMeaning.{plain, remarked, marked_by}
 use Rattle.store.specs.Blocks.{block_length}

@@ -1,4 +1,4 @@
-use Rattle.std.proofs.Common.{◌≡◌, ℕ, List, [], get_or, drop, sym, refl, ap, ◌∙◌, arith, rules}
+use Rattle.std.proofs.Common.{ℕ, List, get_or, drop, sym, refl, ap, ◌∙◌, arith, rules}
 use Rattle.update.proofs.RowBytes.{spare_first, spare_none, spare_rest}
 use Rattle.update.proofs.spare.Spare.next.Goals as goal
 

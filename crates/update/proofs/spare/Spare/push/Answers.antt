@@ -1,4 +1,4 @@
-use Rattle.std.proofs.Common.{refl, arith, rules}
+use Rattle.std.proofs.Common.{refl, rules}
 use Rattle.update.proofs.RowBytes.{spare_push}
 use Rattle.update.proofs.spare.Spare.push.Goals as goal
 
