@@ -2,7 +2,7 @@
 use Rattle.std.specs.Prelude.{◌≡◌, ℕ, suc, ◌+◌, ◌-◌, ◌*◌, ◌/◌, ◌%◌, ◌^◌, ◌<◌, Bool, true, false, cond, List, [], ◌∷◌, ◌++◌, length, drop, ℤ, pos, negsuc, Some, None, decimal, Option, ◌==◌, nat_le, nat_lt, refl}
 use Rattle.std.proofs.Common.{ap, subst, ◌∙◌, arith, length-append}
 use Rattle.std.specs.Int.Signed.{mag}
-use Rattle.std.specs.List.{AllByRecursion as All}
+use Rattle.std.specs.List.{AllByRecursion}
 use Rattle.std.specs.Fmt.{signed_decimal}
 use Rattle.std.proofs.lemmas.Fmt.{decimal_by_steps}
 use Rattle.std.proofs.ByRecursion.{All-push}
@@ -24,7 +24,7 @@ Digit c = is_digit c ≡ true
 -- what holds of the digits of a number
 record Figures (n : ℕ) (ds : List ℕ) : Type 0 where
   value : number_on 0 ds ≡ Some n
-  digits : All Digit ds
+  digits : AllByRecursion Digit ds
   some : 0 < length ds
 
 digit_of : (n : ℕ) → n < 10 → Digit (48 + n)
@@ -64,12 +64,12 @@ below_some limit n o e h = rw (e, lt-ltb n limit h)
 no_dash : (c : ℕ) → Digit c → (c == 45) ≡ false
 no_dash c d = ne_eqb c 45 (λ e. let f = rw e at d in both_ways (is_digit 45) refl f)
 
-to_dash_is : (ds rest : List ℕ) → All Digit ds → to_dash (ds ++ (45 ∷ rest)) ≡ ds
+to_dash_is : (ds rest : List ℕ) → AllByRecursion Digit ds → to_dash (ds ++ (45 ∷ rest)) ≡ ds
 unfolding to_dash
 to_dash_is [] rest a = refl
 to_dash_is (d ∷ ds) rest a = rw (no_dash d a.0, to_dash_is ds rest a.1)
 
-past_dash_is : (ds rest : List ℕ) → All Digit ds → past_dash (ds ++ (45 ∷ rest)) ≡ rest
+past_dash_is : (ds rest : List ℕ) → AllByRecursion Digit ds → past_dash (ds ++ (45 ∷ rest)) ≡ rest
 unfolding past_dash
 past_dash_is [] rest a = refl
 past_dash_is (d ∷ ds) rest a = rw (no_dash d a.0, past_dash_is ds rest a.1)
@@ -93,7 +93,7 @@ lot_shown_back k =
     join : {o o' p p' q q' : Option ℕ} → o ≡ o' → p ≡ p' → q ≡ q' → lot_parts o p q ≡ lot_parts o' p' q'
     join u v w = λ i. lot_parts (u i) (v i) (w i)
 
-first_digit : (ds : List ℕ) → All Digit ds → 0 < length ds → dashed ds ≡ false
+first_digit : (ds : List ℕ) → AllByRecursion Digit ds → 0 < length ds → dashed ds ≡ false
 first_digit [] a h = absurd (omega arith)
 first_digit (d ∷ ds) a h = no_dash d a.0
 

@@ -1,12 +1,7 @@
 //! A card: one of the stores and piles of layers that the tool can make.
 
 ghost use Rattle.pix.specs.Cards.{card};
-ghost use Rattle.layers.specs.Limits.{window_limits, check_limits};
-ghost use Rattle.layers.specs.Windows.{windowed};
-ghost use Rattle.pix.specs.declared.card.Card.TheVariants.{Plain, Checked, Windowed, Piled, Bench, CheckedBench};
-ghost use Rattle.store.specs.Limits.{plain_limits, bench_limits};
-ghost use Rattle.store.specs.BenchMeaning;
-ghost use Rattle.store.specs.PlainMeaning;
+ghost use Rattle.pix.specs.CardLimits.{card_limits};
 
 use layers::check::Check;
 use layers::window::Window;
@@ -28,16 +23,7 @@ pub enum Card {
 impl Store for Card {
     ghost meaning = { card };
 
-    ghost limits = { elim [
-      | Plain s ↦ plain_limits s
-      | Checked s ↦ check_limits (PlainMeaning.plain s.below) s.tally (plain_limits s.below)
-      | Windowed s ↦ window_limits (PlainMeaning.plain s.below) s.start s.most s.tally (plain_limits s.below)
-      | Piled s ↦
-          let w = s.below in
-          check_limits (windowed PlainMeaning.plain w) s.tally (window_limits (PlainMeaning.plain w.below) w.start w.most w.tally (plain_limits w.below))
-      | Bench s ↦ bench_limits s
-      | CheckedBench s ↦ check_limits (BenchMeaning.bench s.below) s.tally (bench_limits s.below)
-    ] };
+    ghost limits = { card_limits };
 
     fn count(&self) -> u32 {
         match self {

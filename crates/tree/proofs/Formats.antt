@@ -1,7 +1,7 @@
 -- A formatted store holds a sound file with no keys.
 use Rattle.std.proofs.Common.{◌≡◌, ℕ, zero, suc, ◌+◌, ◌-◌, ◌*◌, ◌/◌, ◌%◌, ◌<◌, ◌≤◌, Bool, true, false, cond, eqb, ltb, leb, List, [], ◌∷◌, length, Ok, sym, refl, ap, ◌∙◌, subst, inl, inr, arith}
 use Rattle.std.proofs.lemmas.Bool.{and_parts, cases_Bool, eqb-false, eqb-true, le-ltb, leb-true, lt-ltb, ltb-false, ltb-true, ne_eqb}
-use Rattle.std.specs.List.{AllByRecursion as All}
+use Rattle.std.specs.List.{AllByRecursion}
 use Rattle.keys.specs.Kind.{Kind}
 use Rattle.keys.specs.Digits.{from_big}
 use Rattle.tree.specs.declared.head.Head.{Head}
@@ -28,7 +28,7 @@ up_length : (b i : ℕ) → length (up b i) ≡ i
 up_length b zero = refl
 up_length b (suc i) = ap suc (up_length (b + 1) i)
 
-all_up : (P : ℕ → Type 0) (n : ℕ) → ((b : ℕ) → 2 ≤ b → b < n → P b) → (b i : ℕ) → 2 ≤ b → b + i ≤ n → All P (up b i)
+all_up : (P : ℕ → Type 0) (n : ℕ) → ((b : ℕ) → 2 ≤ b → b < n → P b) → (b i : ℕ) → 2 ≤ b → b + i ≤ n → AllByRecursion P (up b i)
 all_up P n f b zero l r = tt
 all_up P n f b (suc i) l r = (f b l (omega arith), all_up P n f (b + 1) i (omega arith) (omega arith))
 

@@ -1,7 +1,7 @@
 -- Every plan, run at any store.
 use Rattle.std.proofs.Common.{◌≡◌, ℕ, Bool, true, false, cond, eqb, ltb, List, [], ◌∷◌, ◌++◌, Some, None, Option, sym, refl, ap, ◌∙◌, subst, arith}
 use Rattle.std.proofs.lemmas.Bool.{eq-eqb, lt-ltb, ltb-true}
-use Rattle.std.specs.List.{AllByRecursion as All}
+use Rattle.std.specs.List.{AllByRecursion}
 use Rattle.store.specs.declared.fault.Fault.{Fault}
 use Rattle.store.specs.declared.fault.Cause.TheVariants.{NoSuchBlock, WrongBuffer}
 use Rattle.store.specs.Faults.{fault}
@@ -25,7 +25,7 @@ clear_by m b h = go (ltb b m.count) refl (eqb m.size m.size) h
 pub not_clear : (m : Meaning) (b : ℕ) (f : Fault) → refusal m b m.size ≡ Some f → Clear m b → ⊥
 not_clear m b f h c = let e = lt-ltb b m.count c.0 in let s = eq-eqb m.size m.size refl in let q = c.1 in let w = rw (e, s, q) at h in absurd (let z : ◌≡◌ {A = ℕ} 0 1 = cc in omega arith)
 
-clear_parts : (m : Meaning) (before : List ℕ) (b : ℕ) (behind : List ℕ) → All (Clear m) (before ++ b ∷ behind) → Clear m b
+clear_parts : (m : Meaning) (before : List ℕ) (b : ℕ) (behind : List ℕ) → AllByRecursion (Clear m) (before ++ b ∷ behind) → Clear m b
 clear_parts m [] b behind a = a.0
 clear_parts m (x ∷ xs) b behind a = clear_parts m xs b behind a.1
 
@@ -48,10 +48,10 @@ module _ {P A : Type 0} where
       bs : List ℕ
       bs = reading m.contents plan
 
-      first : Kept m plan → Unreadably (run m plan).0 → All (Clear m) bs → ⊥
+      first : Kept m plan → Unreadably (run m plan).0 → AllByRecursion (Clear m) bs → ⊥
       first (whole a q) u c = own (u.0, u.1, sym (ap (λ (o : Outcome P A). o.0) q) ∙ u.2)
-      first (stopped xs b ys f l w a r q) u c = not_clear m b f r (clear_parts m xs b ys (subst (All (Clear m)) w c))
+      first (stopped xs b ys f l w a r q) u c = not_clear m b f r (clear_parts m xs b ys (subst (AllByRecursion (Clear m)) w c))
 
-      second : Kept m plan → (All (Clear m) bs → ⊥) → Unreadably (run m plan).0
+      second : Kept m plan → (AllByRecursion (Clear m) bs → ⊥) → Unreadably (run m plan).0
       second (whole a q) n = absurd (n a)
       second (stopped xs b ys f l w a r q) n = (l, f, ap (λ (o : Outcome P A). o.0) q)

@@ -2,7 +2,7 @@
 use Rattle.std.proofs.Common.{◌≡◌, ℕ, zero, suc, Bool, true, false, cond, not, ◌&&◌, List, [], ◌∷◌, ◌++◌, map, Some, None, Option, sym, refl, ap, ◌∙◌}
 use Rattle.std.proofs.lemmas.List.{append-nil}
 use Rattle.std.proofs.lemmas.Bool.{and_from, and_left, and_parts, and_right, not_from_true}
-use Rattle.std.specs.List.{flat_map, AllByRecursion as All}
+use Rattle.std.specs.List.{flat_map, AllByRecursion}
 use Rattle.keys.specs.Kind.{Kind, Lawful}
 use Rattle.tree.specs.Entries.{above, lookup, rises, same_key}
 use Rattle.tree.specs.Trees.{AtLeast, Below, EachNode, Kids, Parted, Tree, Within, block_of, entries_of, kid_for}
@@ -11,17 +11,17 @@ use Rattle.tree.proofs.Shown.{all_both, all_map}
 use Rattle.tree.proofs.Ways.{found_in}
 
 module _ {X : Type 0} (P : X → Type 0) where
-  all_append : (xs ys : List X) → All P xs → All P ys → All P (xs ++ ys)
+  all_append : (xs ys : List X) → AllByRecursion P xs → AllByRecursion P ys → AllByRecursion P (xs ++ ys)
   all_append [] ys a b = b
   all_append (x ∷ xs) ys a b = (a.0, all_append xs ys a.1 b)
 
-  all_joined : {Y : Type 0} (f : Y → List X) (ys : List Y) → All (λ y. All P (f y)) ys → All P (flat_map f ys)
+  all_joined : {Y : Type 0} (f : Y → List X) (ys : List Y) → AllByRecursion (λ y. AllByRecursion P (f y)) ys → AllByRecursion P (flat_map f ys)
   all_joined f [] a = tt
   all_joined f (y ∷ ys) a = all_append (f y) (flat_map f ys) a.0 (all_joined f ys a.1)
 
 module _ {K : Type 0} (κ : Kind K) where
   -- the bounds of a tree bound its entries
-  entries_within : (lo hi : Option K) (h : ℕ) (t : Tree K h) → Within κ lo hi h t → All (λ (e : K × ℕ). AtLeast κ lo e.0 × Below κ e.0 hi) (entries_of K h t)
+  entries_within : (lo hi : Option K) (h : ℕ) (t : Tree K h) → Within κ lo hi h t → AllByRecursion (λ (e : K × ℕ). AtLeast κ lo e.0 × Below κ e.0 hi) (entries_of K h t)
   entries_within lo hi zero t w = w
   entries_within lo hi (suc h) t w =
       all_append (λ (e : K × ℕ). AtLeast κ lo e.0 × Below κ e.0 hi) (entries_of K h t.first) (flat_map (λ x. entries_of K h x.1) t.rest) (entries_within lo hi h t.first w.1)
@@ -57,24 +57,24 @@ module _ {K : Type 0} (κ : Kind K) (L : Lawful κ) (k : K) where
   other_below : (e : K × ℕ) → κ.less e.0 k ≡ true → Other e
   other_below e h = and_right (not (κ.less k e.0)) (not (κ.less e.0 k)) (not_from_true (κ.less e.0 k) h)
 
-  look_none : (ys : List (K × ℕ)) → All Other ys → lookup κ k ys ≡ None
+  look_none : (ys : List (K × ℕ)) → AllByRecursion Other ys → lookup κ k ys ≡ None
   unfolding lookup
   look_none [] a = refl
   look_none (y ∷ ys) a = rw a.0 (look_none ys a.1)
 
-  look_front : (xs ys : List (K × ℕ)) → All Other ys → lookup κ k (xs ++ ys) ≡ lookup κ k xs
+  look_front : (xs ys : List (K × ℕ)) → AllByRecursion Other ys → lookup κ k (xs ++ ys) ≡ lookup κ k xs
   unfolding lookup
   look_front [] ys a = look_none ys a
   look_front (x ∷ xs) ys a = ap (cond (same_key κ k x.0) (Some x.1)) (look_front xs ys a)
 
-  look_back : (xs ys : List (K × ℕ)) → All Other xs → lookup κ k (xs ++ ys) ≡ lookup κ k ys
+  look_back : (xs ys : List (K × ℕ)) → AllByRecursion Other xs → lookup κ k (xs ++ ys) ≡ lookup κ k ys
   unfolding lookup
   look_back [] ys a = refl
   look_back (x ∷ xs) ys a = rw a.0 (look_back xs ys a.1)
 
   -- all entries from a separator on are at least it
   row_from : (h : ℕ) (a : K) (hi : Option K) (t : Tree K h) (xs : List (K × Tree K h)) → Kids κ (λ lo hi. Within κ lo hi h) (Some a) hi t xs → Rising κ a xs
-      → All (λ (e : K × ℕ). κ.less e.0 a ≡ false) (entries_of K h t ++ flat_map (λ x. entries_of K h x.1) xs)
+      → AllByRecursion (λ (e : K × ℕ). κ.less e.0 a ≡ false) (entries_of K h t ++ flat_map (λ x. entries_of K h x.1) xs)
   row_from h a hi t [] ks r =
       all_append (λ (e : K × ℕ). κ.less e.0 a ≡ false) (entries_of K h t) []
       (all_map (λ (e : K × ℕ) (p : AtLeast κ (Some a) e.0 × Below κ e.0 hi). p.0) (entries_of K h t) (entries_within κ (Some a) hi h t ks)) tt
@@ -106,7 +106,7 @@ module _ {K : Type 0} (κ : Kind K) (L : Lawful κ) (k : K) where
           ∙ i)
 
   -- what every child has, the child for k has
-  pub kid_has : {T : Type 0} (P : T → Type 0) (t : T) (xs : List (K × T)) → P t → All (λ (x : K × T). P x.1) xs → P (kid_for κ k t xs)
+  pub kid_has : {T : Type 0} (P : T → Type 0) (t : T) (xs : List (K × T)) → P t → AllByRecursion (λ (x : K × T). P x.1) xs → P (kid_for κ k t xs)
   kid_has P t [] p a = p
   kid_has P t (x ∷ xs) p a = go (κ.less k x.0) refl (kid_has P x.1 xs a.0 a.1)
     where
@@ -123,7 +123,7 @@ module _ {K : Type 0} (κ : Kind K) (L : Lawful κ) (k : K) where
       ∙ sym (row_look h None None t.first t.rest p.0 (rises_by κ (block_of K h) t.rest r.0))
 
   -- entries up to a separator and entries from it on rise together
-  rises_append : (z : K) (xs ys : List (K × ℕ)) → rises κ xs ≡ true → rises κ ys ≡ true → All (λ (e : K × ℕ). κ.less e.0 z ≡ true) xs → All (λ (e : K × ℕ). κ.less e.0 z ≡ false) ys
+  rises_append : (z : K) (xs ys : List (K × ℕ)) → rises κ xs ≡ true → rises κ ys ≡ true → AllByRecursion (λ (e : K × ℕ). κ.less e.0 z ≡ true) xs → AllByRecursion (λ (e : K × ℕ). κ.less e.0 z ≡ false) ys
       → rises κ (xs ++ ys) ≡ true
   unfolding rises
   rises_append z [] ys r q a b = q
@@ -131,13 +131,13 @@ module _ {K : Type 0} (κ : Kind K) (L : Lawful κ) (k : K) where
       let p = and_parts (above κ x.0 xs) (rises κ xs) r in
       and_from (above κ x.0 (xs ++ ys)) (rises κ (xs ++ ys)) (front xs ys p.0 b) (rises_append z xs ys p.1 q a.1 b)
     where
-      front : (us vs : List (K × ℕ)) → above κ x.0 us ≡ true → All (λ (e : K × ℕ). κ.less e.0 z ≡ false) vs → above κ x.0 (us ++ vs) ≡ true
+      front : (us vs : List (K × ℕ)) → above κ x.0 us ≡ true → AllByRecursion (λ (e : K × ℕ). κ.less e.0 z ≡ false) vs → above κ x.0 (us ++ vs) ≡ true
       front [] [] u v = refl
       front [] (y ∷ vs) u v = lt_le κ L x.0 z y.0 a.0 v.0
       front (y ∷ us) vs u v = u
 
   row_rises : (h : ℕ) (lo hi : Option K) (t : Tree K h) (xs : List (K × Tree K h)) → Kids κ (λ lo hi. Within κ lo hi h) lo hi t xs → Rises κ xs
-      → rises κ (entries_of K h t) ≡ true → All (λ (x : K × Tree K h). rises κ (entries_of K h x.1) ≡ true) xs → rises κ (entries_of K h t ++ flat_map (λ x. entries_of K h x.1) xs) ≡ true
+      → rises κ (entries_of K h t) ≡ true → AllByRecursion (λ (x : K × Tree K h). rises κ (entries_of K h x.1) ≡ true) xs → rises κ (entries_of K h t ++ flat_map (λ x. entries_of K h x.1) xs) ≡ true
   row_rises h lo hi t [] ks o r a = rw append-nil r
   row_rises h lo hi t (x ∷ xs) ks o r a =
       rises_append x.0 (entries_of K h t) (flat_map (λ x. entries_of K h x.1) (x ∷ xs)) r (row_rises h (Some x.0) hi x.1 xs ks.1 (rest xs o) a.0 a.1)

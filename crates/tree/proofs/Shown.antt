@@ -1,7 +1,7 @@
 -- The rules in words amount to this: the head and the nodes are seen.
 use Rattle.std.proofs.Common.{◌≡◌, ℕ, zero, suc, ◌≤◌, Bool, true, false, List, [], ◌∷◌, drop, Some, Ok, sym, subst, arith}
 use Rattle.std.proofs.lemmas.Bool.{and_from, eq-eqb, le-leb, lt-ltb}
-use Rattle.std.specs.List.{AllByRecursion as All}
+use Rattle.std.specs.List.{AllByRecursion}
 use Rattle.keys.specs.Kind.{Kind}
 use Rattle.tree.specs.declared.head.Head.{Head}
 use Rattle.tree.specs.Entries.{rises, see_entries}
@@ -13,12 +13,12 @@ use Rattle.tree.specs.Sound.{Sound}
 use Rattle.tree.specs.Trees.{EachNode, Shows, Tree, node_of}
 
 module _ {X : Type 0} {P Q : X → Type 0} where
-  pub all_map : ((x : X) → P x → Q x) → (xs : List X) → All P xs → All Q xs
+  pub all_map : ((x : X) → P x → Q x) → (xs : List X) → AllByRecursion P xs → AllByRecursion Q xs
   all_map f [] a = tt
   all_map f (x ∷ xs) a = (f x a.0, all_map f xs a.1)
 
 module _ {X : Type 0} (P Q : X → Type 0) where
-  pub all_both : (xs : List X) → All P xs → All Q xs → All (λ x. P x × Q x) xs
+  pub all_both : (xs : List X) → AllByRecursion P xs → AllByRecursion Q xs → AllByRecursion (λ x. P x × Q x) xs
   all_both [] a b = tt
   all_both (x ∷ xs) a b = ((a.0, b.0), all_both xs a.1 b.1)
 

@@ -3,7 +3,7 @@ use Rattle.std.proofs.Common.{◌≡◌, ℕ, zero, suc, ◌-◌, ◌*◌, ◌^�
 use native.Mathlib.Nat.{pow-zero}
 use Rattle.std.proofs.lemmas.Nat.{mul-le}
 use Rattle.std.proofs.lemmas.List.{length-append, length-map}
-use Rattle.std.specs.List.{flat_map, AllByRecursion as All}
+use Rattle.std.specs.List.{flat_map, AllByRecursion}
 use Rattle.keys.specs.Kind.{Kind}
 use Rattle.tree.specs.Entries.{join_entry, key_of, number_of, past, see_entries}
 use Rattle.tree.specs.Fields.{u8_at}
@@ -27,7 +27,7 @@ module _ (K : Type 0) (m : ℕ) where
   abbrev Filled : (h : ℕ) → Bool → Tree K h → Type 0
   Filled = EachNode (λ is_leaf top b d. least m top is_leaf ≤ length d.entries)
 
-  row_many : (w h : ℕ) (xs : List (K × Tree K h)) → All (λ (x : K × Tree K h). w ≤ length (entries_of K h x.1)) xs → length xs * w ≤ length (flat_map (λ x. entries_of K h x.1) xs)
+  row_many : (w h : ℕ) (xs : List (K × Tree K h)) → AllByRecursion (λ (x : K × Tree K h). w ≤ length (entries_of K h x.1)) xs → length xs * w ≤ length (flat_map (λ x. entries_of K h x.1) xs)
   row_many w h [] a = omega arith
   row_many w h (x ∷ xs) a =
       let i = row_many w h xs a.1 in

@@ -2,7 +2,7 @@
 use Rattle.std.proofs.Common.{◌≡◌, ℕ, zero, suc, ◌+◌, ◌-◌, ◌*◌, ◌%◌, ◌^◌, ◌<◌, ◌≤◌, Bool, true, false, cond, ltb, leb, List, [], ◌∷◌, ◌++◌, map, length, Some, Ok, Err, Option, Result, sym, refl, ap, ◌∙◌, subst, arith}
 use Rattle.std.proofs.lemmas.List.{append-nil}
 use Rattle.std.proofs.lemmas.Bool.{and_from, and_parts, eq-eqb, le-leb, lt-ltb, ltb-true}
-use Rattle.std.specs.List.{AllByRecursion as All}
+use Rattle.std.specs.List.{AllByRecursion}
 use Rattle.keys.specs.Kind.{Kind, Lawful}
 use Rattle.store.specs.declared.fault.Fault.{Fault}
 use Rattle.store.specs.Calls.{refusal}
@@ -39,7 +39,7 @@ rise_by : (i : ℕ) (m : Meaning) → m.tally < 2 ^ 64 → i < 2 ^ 64 → rise m
 rise_by i m l j = ap (rise m.tally) (tally_by i m l) ∙ omega arith
 
 module _ {K : Type 0} (κ : Kind K) (n : ℕ) where
-  fits_inside : (h : ℕ) (xs : List (K × Tree K h)) → kids_fit κ n (map (λ x. (x.0, block_of K h x.1)) xs) ≡ true → All (λ (x : K × Tree K h). block_of K h x.1 < n) xs
+  fits_inside : (h : ℕ) (xs : List (K × Tree K h)) → kids_fit κ n (map (λ x. (x.0, block_of K h x.1)) xs) ≡ true → AllByRecursion (λ (x : K × Tree K h). block_of K h x.1 < n) xs
   unfolding kids_fit
   fits_inside h [] f = tt
   fits_inside h (x ∷ xs) f =
@@ -48,7 +48,7 @@ module _ {K : Type 0} (κ : Kind K) (n : ℕ) where
 
   -- the way to a leaf stays inside the store
   trail_inside : (L : Lawful κ) (h : ℕ) (top : Bool) (k : K) (t : Tree K h) → block_of K h t < n → EachNode (λ is_leaf top b d. numbers_fit κ n is_leaf d ≡ true) h top t
-      → All (λ b. b < n) (trail κ h k t)
+      → AllByRecursion (λ b. b < n) (trail κ h k t)
   trail_inside L zero top k t l f = (l, tt)
   trail_inside L (suc h) top k t l f =
       let first = block_of K h t.first in
@@ -97,7 +97,7 @@ module _ {K : Type 0} {κ : Kind K} {n size : ℕ} {c : ℕ → List ℕ} (S : S
   unfolding answer
   find_answers L k = head_answers tt (find_below κ n size k) ∙ (down_answers tt k _ ∙ ap (λ (o : Option ℕ). Ok o) (found_right κ L k S.height true S.tree S.keys_rise S.parted))
 
-  way_inside : Lawful κ → (k : K) → All (λ b. b < n) (way S k)
+  way_inside : Lawful κ → (k : K) → AllByRecursion (λ b. b < n) (way S k)
   way_inside L k = (
     let l = S.two_blocks in omega arith,
     trail_inside κ n L S.height true k S.tree (subst (λ (b : ℕ). b < n) (sym S.root) S.root_bounds.1) S.numbers_bounds,
@@ -107,7 +107,7 @@ module _ {K : Type 0} {κ : Kind K} {n size : ℕ} {c : ℕ → List ℕ} (S : S
 mark_refuses : (m : Meaning) (b : ℕ) (f : Fault) → b < m.count → refusal m b m.size ≡ Some f → m.mark b ≡ Some f
 mark_refuses m b f l h = let e = lt-ltb b m.count l in let s = eq-eqb m.size m.size refl in rw (e, s) at h
 
-all_at : (P : ℕ → Type 0) (xs : List ℕ) (b : ℕ) (ys : List ℕ) → All P (xs ++ b ∷ ys) → P b
+all_at : (P : ℕ → Type 0) (xs : List ℕ) (b : ℕ) (ys : List ℕ) → AllByRecursion P (xs ++ b ∷ ys) → P b
 all_at P [] b ys a = a.0
 all_at P (x ∷ xs) b ys a = all_at P xs b ys a.1
 
@@ -116,7 +116,7 @@ length_part [] b ys = omega arith
 length_part (x ∷ xs) b ys = let i = length_part xs b ys in omega arith
 
 -- a plan whose reading list is inside the store, and that answers a by itself
-pub ends_by : {A : Type 0} (m : Meaning) (plan : Plan (Unit {0}) A) (bs : List ℕ) (a : A) → m.tally < 2 ^ 64 → length bs < 2 ^ 64 → All (λ b. b < m.count) bs
+pub ends_by : {A : Type 0} (m : Meaning) (plan : Plan (Unit {0}) A) (bs : List ℕ) (a : A) → m.tally < 2 ^ 64 → length bs < 2 ^ 64 → AllByRecursion (λ b. b < m.count) bs
     → reading m.contents plan ≡ bs → answer m.contents plan ≡ Ok a → Ends m.mark bs a (told m.tally (run m plan))
 ends_by {A} m plan bs a t l inside r e = go (subst (λ (xs : List ℕ). Ended m xs (answer m.contents plan) (run m plan)) r (kept m plan))
   where
@@ -127,7 +127,7 @@ ends_by {A} m plan bs a t l inside r e = go (subst (λ (xs : List ℕ). Ended m 
     go (stopped xs b ys f p w u v q) =
         let s = subst (λ (zs : List ℕ). length zs < 2 ^ 64) w l in
         let z = length_part xs b ys in
-        refused xs b ys f w (all_map (λ (x : ℕ) (y : Clear m x). y.1) xs u) (mark_refuses m b f (all_at (λ (x : ℕ). x < m.count) xs b ys (subst (All (λ (x : ℕ). x < m.count)) w inside)) v)
+        refused xs b ys f w (all_map (λ (x : ℕ) (y : Clear m x). y.1) xs u) (mark_refuses m b f (all_at (λ (x : ℕ). x < m.count) xs b ys (subst (AllByRecursion (λ (x : ℕ). x < m.count)) w inside)) v)
         (ap (told m.tally) q ∙ ap (λ (i : ℕ). Err (record { refusal = Unreadable f; reads = i })) (rise_by (suc (length xs)) m t (omega arith) ∙ omega arith))
 
 pub find_sound : {K : Type 0} (κ : Kind K) → Lawful κ → (m : Meaning) → m.tally < 2 ^ 64 → (S : Sound κ m.count m.size m.contents) (k : K)

@@ -1,7 +1,7 @@
 -- A walk over blocks that show a tree: it reads the tree's way to the leaf, and goes on with that.
 use Rattle.std.proofs.Common.{◌≡◌, ℕ, zero, suc, Bool, true, false, cond, eqb, List, [], ◌∷◌, ◌++◌, map, length, Ok, Err, Result, refl, ap, ◌∙◌, arith}
 use Rattle.std.proofs.lemmas.Bool.{cond_both}
-use Rattle.std.specs.List.{AllByRecursion as All}
+use Rattle.std.specs.List.{AllByRecursion}
 use Rattle.keys.specs.Kind.{Kind}
 use Rattle.tree.specs.declared.head.Head.{Head}
 use Rattle.tree.specs.declared.refusal.Refusal.{Refusal}
@@ -44,7 +44,7 @@ module _ {K : Type 0} (κ : Kind K) where
       go false e i = rw e i
 
 module _ {K : Type 0} (κ : Kind K) (n m : ℕ) (c : ℕ → List ℕ) where
-  kid_shows : (h : ℕ) (k : K) (t : Tree K h) (ts : List (K × Tree K h)) → Shows κ n m c h false t → All (λ x. Shows κ n m c h false x.1) ts → Shows κ n m c h false (kid_for κ k t ts)
+  kid_shows : (h : ℕ) (k : K) (t : Tree K h) (ts : List (K × Tree K h)) → Shows κ n m c h false t → AllByRecursion (λ x. Shows κ n m c h false x.1) ts → Shows κ n m c h false (kid_for κ k t ts)
   kid_shows h k t [] s a = s
   kid_shows h k t (x ∷ xs) s a =
       cond_both (κ.less k x.0) t (kid_for κ k x.1 xs) (λ (u : Tree K h). Shows κ n m c h false u) (λ _. s) (λ _. kid_shows h k x.1 xs a.0 a.1)

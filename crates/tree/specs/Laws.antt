@@ -10,7 +10,7 @@
 --   Exactly m plan      the plan is refused so if and only if a block on its reading list is not clear. This holds of every plan
 --                       that does not answer so by itself.
 use Rattle.std.specs.Prelude.{◌≡◌, ℕ, zero, suc, ◌<◌, List, ◌∷◌, ◌++◌, length, Some, None, Ok, Err, Result}
-use Rattle.std.specs.List.{AllByRecursion as All}
+use Rattle.std.specs.List.{AllByRecursion}
 use Rattle.store.specs.declared.fault.Fault.{Fault}
 use Rattle.store.specs.Calls.{refusal}
 use Rattle.store.specs.Meaning.{Meaning, tallied}
@@ -31,8 +31,8 @@ abbrev pub Clear : Meaning → ℕ → Type 0
 Clear m b = (b < m.count) × (m.mark b ≡ None)
 
 pub data Ended {P A : Type 0} (m : Meaning) (bs : List ℕ) (a : Result A (Stop P)) (out : Outcome P A) : Type 0 where
-  whole : All (Clear m) bs → out ≡ (a, tallied_by (length bs) m) → Ended m bs a out
-  stopped : (before : List ℕ) (b : ℕ) (behind : List ℕ) (f : Fault) (p : P) → bs ≡ before ++ b ∷ behind → All (Clear m) before → refusal m b m.size ≡ Some f
+  whole : AllByRecursion (Clear m) bs → out ≡ (a, tallied_by (length bs) m) → Ended m bs a out
+  stopped : (before : List ℕ) (b : ℕ) (behind : List ℕ) (f : Fault) (p : P) → bs ≡ before ++ b ∷ behind → AllByRecursion (Clear m) before → refusal m b m.size ≡ Some f
       → out ≡ (Err (record { left = p; why = Unreadable f }), tallied_by (suc (length before)) m) → Ended m bs a out
 
 module _ {P A : Type 0} where
@@ -44,4 +44,4 @@ module _ {P A : Type 0} where
 
   abbrev pub Exactly : Meaning → Plan P A → Type 0
   Exactly m plan =
-      (Unreadably (run m plan).0 → All (Clear m) (reading m.contents plan) → ⊥) × ((All (Clear m) (reading m.contents plan) → ⊥) → Unreadably (run m plan).0)
+      (Unreadably (run m plan).0 → AllByRecursion (Clear m) (reading m.contents plan) → ⊥) × ((AllByRecursion (Clear m) (reading m.contents plan) → ⊥) → Unreadably (run m plan).0)

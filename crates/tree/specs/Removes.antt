@@ -89,20 +89,20 @@ module _ {K : Type 0} where
 module _ {K : Type 0} (κ : Kind K) (n size : ℕ) where
   -- the parent f, whose entry for the right one of the pair stands between pre and post
   abbrev pub settle : Bool → Frame K → List (K × ℕ) → ℕ → List (K × ℕ) → Pending K → Mended K → Pending K
-  settle is_leaf f pre right-block post r (balanced a s b) = record {
+  settle is_leaf f pre right_block post r (balanced a s b) = record {
     block = f.block;
-    node = node f.link (pre ++ (s, right-block) ∷ post);
+    node = node f.link (pre ++ (s, right_block) ∷ post);
     changed = true;
-    writes = (last_kid f.link pre, write_node κ size is_leaf a) ∷ (right-block, write_node κ size is_leaf b) ∷ r.writes;
+    writes = (last_kid f.link pre, write_node κ size is_leaf a) ∷ (right_block, write_node κ size is_leaf b) ∷ r.writes;
     front = r.front;
     freed = r.freed;
   }
-  settle is_leaf f pre right-block post r (merged a) = record {
+  settle is_leaf f pre right_block post r (merged a) = record {
     block = f.block;
     node = node f.link (pre ++ post);
     changed = true;
-    writes = (last_kid f.link pre, write_node κ size is_leaf a) ∷ (right-block, write_free size r.front) ∷ r.writes;
-    front = right-block;
+    writes = (last_kid f.link pre, write_node κ size is_leaf a) ∷ (right_block, write_free size r.front) ∷ r.writes;
+    front = right_block;
     freed = r.freed + 1;
   }
 

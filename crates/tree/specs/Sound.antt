@@ -7,7 +7,7 @@
 --   map_of S              the map that a sound file holds: its leaves' entries from left to right
 use Rattle.std.specs.Prelude.{◌≡◌, ℕ, suc, ◌<◌, ◌≤◌, true, List, [], ◌∷◌, ◌++◌, length, drop, Some}
 use Rattle.keys.specs.Kind.{Kind}
-use Rattle.std.specs.List.{AllByRecursion as All}
+use Rattle.std.specs.List.{AllByRecursion}
 use Rattle.tree.specs.declared.head.Head.{Head}
 use Rattle.tree.specs.Entries.{rises, see_entries}
 use Rattle.tree.specs.Fields.{u32_at, u8_at}
@@ -54,18 +54,18 @@ pub record Sound {K : Type 0} (κ : Kind K) (n size : ℕ) (c : ℕ → List ℕ
   pub first_free_bound : head.first_free < n
   -- rule 2: the blocks at the last level are leaves, those above are inner nodes, those on the free list are free
   pub node_tags : EachNode (λ is_leaf top b d. u8_at 0 (c b) ≡ tag_of is_leaf) height true tree
-  pub free_tags : All (λ b. u8_at 0 (c b) ≡ free_tag) free
+  pub free_tags : AllByRecursion (λ b. u8_at 0 (c b) ≡ free_tag) free
   -- rule 3: a node has at most m entries, where m is the order. Outside the root a leaf has at least ⌈m/2⌉ and an inner node at least
   -- ⌈(m+1)/2⌉ - 1; an inner root has at least 1. A free block has 0.
   pub most_counts : EachNode (λ is_leaf top b d. u8_at 1 (c b) ≤ head.order) height true tree
   pub least_counts : EachNode (λ is_leaf top b d. least head.order top is_leaf ≤ u8_at 1 (c b)) height true tree
-  pub free_counts : All (λ b. u8_at 1 (c b) ≡ 0) free
+  pub free_counts : AllByRecursion (λ b. u8_at 1 (c b) ≡ 0) free
   -- rule 4: the keys of a node can be read, and they rise strictly
   pub keys_read : EachNode (λ is_leaf top b d. see_entries κ (u8_at 1 (c b)) (drop 8 (c b)) ≡ Some d.entries) height true tree
   pub keys_rise : EachNode (λ is_leaf top b d. rises κ d.entries ≡ true) height true tree
   -- rule 5: children are blocks past the head, and the links of leaves and free blocks are below n
   pub numbers_bounds : EachNode (λ is_leaf top b d. numbers_fit κ n is_leaf d ≡ true) height true tree
-  pub free_links : All (λ b. u32_at 4 (c b) < n) free
+  pub free_links : AllByRecursion (λ b. u32_at 4 (c b) < n) free
   -- rule 6: every key in any node below a child is at least the separator before it and less than the one after it
   pub parted : Parted κ height tree
   -- rule 7: no block is met twice

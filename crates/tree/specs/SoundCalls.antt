@@ -13,7 +13,7 @@
 --   Empty κ m         a store that means m holds a sound file with no keys
 use Rattle.std.specs.Prelude.{◌≡◌, ℕ, ◌+◌, ◌-◌, ◌*◌, ◌^◌, ◌<◌, ◌≤◌, true, List, [], ◌∷◌, ◌++◌, length, Some, None, Ok, Err, Option, Result}
 use Rattle.keys.specs.Kind.{Kind}
-use Rattle.std.specs.List.{AllByRecursion as All}
+use Rattle.std.specs.List.{AllByRecursion}
 use Rattle.store.specs.declared.fault.Fault.{Fault}
 use Rattle.store.specs.Meaning.{Meaning}
 use Rattle.tree.specs.declared.refusal.Refusal.TheVariants.{Unreadable}
@@ -29,8 +29,8 @@ abbrev pub way : {K : Type 0} {κ : Kind K} {n size : ℕ} {c : ℕ → List ℕ
 way {K} {κ} S k = 0 ∷ trail κ S.height k S.tree
 
 pub data Ends {A : Type 0} (mark : ℕ → Option Fault) (bs : List ℕ) (a : A) (r : Result (A × ℕ) Refused) : Type 0 where
-  answered : All (λ b. mark b ≡ None) bs → r ≡ Ok (a, length bs) → Ends mark bs a r
-  refused : (before : List ℕ) (b : ℕ) (behind : List ℕ) (f : Fault) → bs ≡ before ++ b ∷ behind → All (λ x. mark x ≡ None) before → mark b ≡ Some f
+  answered : AllByRecursion (λ b. mark b ≡ None) bs → r ≡ Ok (a, length bs) → Ends mark bs a r
+  refused : (before : List ℕ) (b : ℕ) (behind : List ℕ) (f : Fault) → bs ≡ before ++ b ∷ behind → AllByRecursion (λ x. mark x ≡ None) before → mark b ≡ Some f
       → r ≡ Err (record { refusal = Unreadable f; reads = length before + 1 }) → Ends mark bs a r
 
 abbrev pub carried : {A : Type 0} → Result (A × ℕ) Refused → ℕ

@@ -20,7 +20,7 @@
 --   times b xs                 how often b is in xs
 use Rattle.std.specs.Prelude.{◌≡◌, ℕ, zero, suc, ◌+◌, Bool, true, false, cond, List, [], ◌∷◌, ◌++◌, map, Some, None, Option, ◌==◌}
 use Rattle.keys.specs.Kind.{Kind}
-use Rattle.std.specs.List.{flat_map, AllByRecursion as All}
+use Rattle.std.specs.List.{flat_map, AllByRecursion}
 use Rattle.tree.specs.Nodes.{Node, least, see_node}
 use Rattle.tree.specs.Nodes.Seen.{right}
 
@@ -62,7 +62,7 @@ module _ (K : Type 0) where
 module _ {K : Type 0} (P : Bool → Bool → ℕ → Node K → Type 0) where
   abbrev pub EachNode : (h : ℕ) → Bool → Tree K h → Type 0
   EachNode zero top t = P true top t.block (node_of K zero t)
-  EachNode (suc h) top t = P false top t.block (node_of K (suc h) t) × EachNode h false t.first × All (λ x. EachNode h false x.1) t.rest
+  EachNode (suc h) top t = P false top t.block (node_of K (suc h) t) × EachNode h false t.first × AllByRecursion (λ x. EachNode h false x.1) t.rest
 
 module _ {K : Type 0} (κ : Kind K) where
   abbrev pub AtLeast : Option K → K → Type 0
@@ -74,8 +74,8 @@ module _ {K : Type 0} (κ : Kind K) where
   Below k (Some z) = κ.less k z ≡ true
 
   abbrev pub Within : Option K → Option K → (h : ℕ) → Tree K h → Type 0
-  Within lo hi zero t = All (λ e. AtLeast lo e.0 × Below e.0 hi) t.entries
-  Within lo hi (suc h) t = All (λ x. AtLeast lo x.0 × Below x.0 hi) t.rest × Within lo hi h t.first × All (λ x. Within lo hi h x.1) t.rest
+  Within lo hi zero t = AllByRecursion (λ e. AtLeast lo e.0 × Below e.0 hi) t.entries
+  Within lo hi (suc h) t = AllByRecursion (λ x. AtLeast lo x.0 × Below x.0 hi) t.rest × Within lo hi h t.first × AllByRecursion (λ x. Within lo hi h x.1) t.rest
 
   abbrev pub Kids : {T : Type 0} → (Option K → Option K → T → Type 0) → Option K → Option K → T → List (K × T) → Type 0
   Kids S lo hi t [] = S lo hi t
@@ -83,7 +83,7 @@ module _ {K : Type 0} (κ : Kind K) where
 
   abbrev pub Parted : (h : ℕ) → Tree K h → Type 0
   Parted zero t = Unit {0}
-  Parted (suc h) t = Kids (λ lo hi. Within lo hi h) None None t.first t.rest × Parted h t.first × All (λ x. Parted h x.1) t.rest
+  Parted (suc h) t = Kids (λ lo hi. Within lo hi h) None None t.first t.rest × Parted h t.first × AllByRecursion (λ x. Parted h x.1) t.rest
 
   abbrev pub Shows : ℕ → ℕ → (ℕ → List ℕ) → (h : ℕ) → Bool → Tree K h → Type 0
   Shows n m c = EachNode (λ is_leaf top b d. see_node κ n m is_leaf (least m top is_leaf) (c b) ≡ right d)

@@ -1,7 +1,7 @@
 -- Batches: one block more, and the writes made.
 use Rattle.std.proofs.Common.{◌≡◌, ℕ, zero, suc, ◌+◌, ◌-◌, ◌<◌, ◌≤◌, true, false, List, [], ◌∷◌, length, get_or, take, set, Some, None, Result, sym, refl, ap, ◌∙◌, add-one, arith, length-take, get_or-set_other, get_or-set_same}
 use Rattle.std.proofs.lemmas.Bool.{eq-eqb, lt-ltb, ne_eqb}
-use Rattle.std.specs.List.{AllByRecursion as All}
+use Rattle.std.specs.List.{AllByRecursion}
 use Rattle.store.specs.declared.fault.Fault.{Fault}
 use Rattle.store.specs.Calls.{Wrote, misuse}
 use Rattle.store.specs.Meaning.{Meaning, written}
@@ -66,9 +66,9 @@ module _ (m : Meaning) (bs : List ℕ) (ps : List (List ℕ)) (len : ℕ) where
     pub rest : put_all m all ≡ put_all now (first_writes bs ps m.size i)
     pub count : now.count ≡ m.count
     pub size : now.size ≡ m.size
-    pub inside : All (λ w. w.0 < m.count) (first_writes bs ps m.size i)
+    pub inside : AllByRecursion (λ w. w.0 < m.count) (first_writes bs ps m.size i)
 
-  pub left_start : All (λ w. w.0 < m.count) all → Left len m
+  pub left_start : AllByRecursion (λ w. w.0 < m.count) all → Left len m
   left_start a = record { rest = refl; count = refl; size = refl; inside = a }
 
   pub left_done : (now : Meaning) → Left 0 now → now ≡ put_all m all
@@ -80,7 +80,7 @@ module _ (m : Meaning) (bs : List ℕ) (ps : List (List ℕ)) (len : ℕ) where
   unfolding first_writes
   left_next i now after r size es fits l w =
       let z : size - 0 ≡ m.size = omega arith in
-      let a : All (λ w. w.0 < m.count) (first_writes bs ps m.size (suc i)) = rw (add-one i) at l.inside in
+      let a : AllByRecursion (λ w. w.0 < m.count) (first_writes bs ps m.size (suc i)) = rw (add-one i) at l.inside in
       let k : length (take m.size (get_or ps i [])) ≡ now.size = simp length-take (let q = l.size in omega arith) in
       let none : misuse now (get_or bs i 0) (length (take (size - 0) (get_or ps i []))) ≡ None = rw (z, lt-ltb (get_or bs i 0) now.count (let q = l.count in let p = a.0 in omega arith), eq-eqb (length (take m.size (get_or ps i []))) now.size k) in
       let e : after ≡ written now (get_or bs i 0) (take m.size (get_or ps i [])) = w.after ∙ (rw none (rw z)) in

@@ -1,7 +1,7 @@
 //! Blocks to be written, gathered before the first write: the calls.
 
 ghost use Rattle.std.specs.Prelude.{◌≡◌, ℕ, ◌+◌, ◌<◌, ◌≤◌, [], ◌∷◌, take};
-ghost use Rattle.std.specs.List.{AllByRecursion as All};
+ghost use Rattle.std.specs.List.{AllByRecursion};
 ghost use Rattle.tree.specs.Inserts.{put_all, repeated, stands};
 ghost use Rattle.update.specs.Batches.{first_writes, stacked};
 
@@ -61,7 +61,7 @@ impl Batch {
 
     /// Writes all blocks.
     pub fn flush<S: Store>(&self, store: &mut S)
-        requires { All (λ w. w.0 < (S.Store.meaning store.old).count) (stacked self.now (S.Store.meaning store.old).size) }
+        requires { AllByRecursion (λ w. w.0 < (S.Store.meaning store.old).count) (stacked self.now (S.Store.meaning store.old).size) }
         ensures { S.Store.meaning store.new ≡ put_all (S.Store.meaning store.old) (stacked self.now (S.Store.meaning store.old).size) }
     {
         let size = store.size() as usize;
