@@ -5,7 +5,7 @@ use Rattle.std.proofs.lemmas.List.{append_assoc, append-nil, take-append-drop}
 use Rattle.std.proofs.Math.Seq.{take-append_seam, drop-append_seam}
 use Rattle.keys.specs.Bytes.{big_endian}
 use Rattle.keys.specs.Kind.{Kind, Lawful}
-use Rattle.page.proofs.Scans.{entries_append, entries_length}
+use Rattle.page.proofs.Places.{back_bytes, front_bytes}
 use Rattle.tree.specs.Entries.{write_entries}
 use Rattle.tree.specs.Fields.{padded}
 use Rattle.tree.specs.Inserts.{Grown, Writes, grow_leaf}
@@ -16,13 +16,6 @@ use Rattle.update.specs.Memory.{Sprung, UpShown}
 use Rattle.update.specs.Spares.{spare_of}
 
 module _ {K : Type 0} (κ : Kind K) (L : Lawful κ) where
-  -- the bytes of entries, cut between two of them
-  front_cut : (xs ys : List (K × ℕ)) → take (length xs * (κ.width + 4)) (write_entries κ (xs ++ ys)) ≡ write_entries κ xs
-  front_cut xs ys = rw (entries_append κ xs ys, ← entries_length κ L xs) (take-append_seam (write_entries κ xs) (write_entries κ ys))
-
-  back_cut : (xs ys : List (K × ℕ)) → drop (length xs * (κ.width + 4)) (write_entries κ (xs ++ ys)) ≡ write_entries κ ys
-  back_cut xs ys = rw (entries_append κ xs ys, ← entries_length κ L xs) (drop-append_seam (write_entries κ xs) (write_entries κ ys))
-
   -- the key in front of entries
   key_front : (e : K × ℕ) (es : List (K × ℕ)) → take κ.width (write_entries κ (e ∷ es)) ≡ κ.write e.0
   unfolding write_entries
@@ -56,8 +49,8 @@ module _ {K : Type 0} (κ : Kind K) (L : Lawful κ) where
           ≡ (b, padded size (1 ∷ length low ∷ 0 ∷ 0 ∷ (big_endian 4 new ++ front))) ∷ (new, padded size (1 ∷ suc (length high) ∷ 0 ∷ 0 ∷ (big_endian 4 link ++ back))) ∷ []
           → Sprung κ size (grow_leaf κ n size m b link (low ++ (e ∷ high)) spare) a true bs
       split_known low high e h l r s =
-          let f : front ≡ write_entries κ low = cut_front ∙ (rw (r, ← h) (front_cut low (e ∷ high))) in
-          let k : back ≡ write_entries κ (e ∷ high) = cut_back ∙ (rw (r, ← h) (back_cut low (e ∷ high))) in
+          let f : front ≡ write_entries κ low = cut_front ∙ (rw (r, ← h) (front_bytes κ L low (e ∷ high))) in
+          let k : back ≡ write_entries κ (e ∷ high) = cut_back ∙ (rw (r, ← h) (back_bytes κ L low (e ∷ high))) in
           let g = split_grown low high e h l in
           record {
             writes = s ∙ (rw (f, k) (sym (ap (λ (x : Grown K). x.writes) g)));

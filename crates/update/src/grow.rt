@@ -4,7 +4,7 @@ ghost use Rattle.std.specs.Prelude.{◌≡◌, ℕ, ◌+◌, ◌*◌, ◌≤◌,
 ghost use Rattle.keys.specs.Bytes.{big_endian};
 ghost use Rattle.tree.specs.Entries.{write_entries};
 ghost use Rattle.tree.specs.Fields.{padded};
-ghost use Rattle.tree.specs.Inserts.{grow_inner, grow_leaf};
+ghost use Rattle.tree.specs.Inserts.{grow_leaf};
 ghost use Rattle.tree.specs.Nodes.{tag_of};
 ghost use Rattle.update.specs.Batches.{stacked};
 ghost use Rattle.update.specs.Memory.{Sprung};

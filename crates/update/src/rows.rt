@@ -1,12 +1,7 @@
-//! Rows of entries put together in memory, and nodes made of them.
+//! Rows of entries put together in memory.
 
-ghost use Rattle.std.specs.Prelude.{◌≡◌, ℕ, ◌+◌, ◌<◌, ◌≤◌, ◌∷◌, ◌++◌, length};
-ghost use Rattle.keys.specs.Bytes.{big_endian};
-ghost use Rattle.tree.specs.Fields.{padded};
-ghost use Rattle.tree.specs.Nodes.{tag_of};
-ghost use Rattle.update.specs.Batches.{stacked};
+ghost use Rattle.std.specs.Prelude.{◌≡◌, ◌+◌, ◌++◌, length};
 
-use crate::batch::Batch;
 use store::bytes::overlay;
 
 /// Fills the row with three parts, one after another.
