@@ -1,8 +1,8 @@
 -- The free list, read block by block.
-use Rattle.std.proofs.Common.{◌≡◌, ℕ, suc, ◌+◌, ◌-◌, ◌<◌, ◌≤◌, List, [], ◌∷◌, ◌++◌, Some, None, Ok, Err, Option, Result, sym, refl, ap, ◌∙◌, arith}
+use Rattle.std.proofs.Common.{false, ◌≡◌, ℕ, suc, ◌+◌, ◌-◌, ◌<◌, ◌≤◌, List, [], ◌∷◌, ◌++◌, Some, None, Ok, Err, Option, Result, sym, refl, ap, ◌∙◌, arith, ◌==◌}
 use Rattle.keys.specs.Kind.{Kind}
 use Rattle.std.proofs.lemmas.List.{append_assoc, append-nil}
-use Rattle.std.proofs.lemmas.Bool.{le-leb}
+use Rattle.std.proofs.lemmas.Bool.{le-leb, ne_eqb}
 use Rattle.store.specs.declared.fault.Fault.{Fault}
 use Rattle.store.specs.Calls.{refusal}
 use Rattle.store.specs.Meaning.{Meaning, tallied}
@@ -14,7 +14,7 @@ use Rattle.tree.specs.Nodes.Seen.{wrong, right}
 use Rattle.tree.specs.Plans.{Stop, bare, on_read, run}
 use Rattle.tree.specs.Plans.Plan.{done}
 use Rattle.tree.specs.Walks.{on_seen}
-use Rattle.update.specs.Frees.{free_answer, frees_from}
+use Rattle.update.specs.Frees.{free_answer, frees_from, frees_seen}
 
 module _ {K : Type 0} (κ : Kind K) (m₀ : Meaning) (need first : ℕ) where
   -- what is left of reading `need` blocks after i of them, the blocks so far being xs
@@ -26,11 +26,14 @@ module _ {K : Type 0} (κ : Kind K) (m₀ : Meaning) (need first : ℕ) where
     pub count : m.count ≡ m₀.count
     pub size : m.size ≡ m₀.size
     pub pushed : len ≡ i
+    pub contents : m.contents ≡ m₀.contents
+    pub mark : m.mark ≡ m₀.mark
+    pub seen : frees_seen m₀ need first ≡ xs ++ frees_seen m₀ (need - i) b
 
   pub going_start : (xs : List ℕ) → xs ≡ [] → Going m₀ 0 first 0 xs
   going_start xs e =
       let z : need - 0 ≡ need = omega arith in
-      record { rest = rw (z, e); count = refl; size = refl; pushed = refl }
+      record { rest = rw (z, e); count = refl; size = refl; pushed = refl; contents = refl; mark = refl; seen = rw (z, e) }
 
   module _ (m : Meaning) (i b len : ℕ) (xs : List ℕ) (G : Going m i b len xs) (l : i < need) where
     more : need - i ≡ suc (need - (i + 1))
@@ -39,6 +42,15 @@ module _ {K : Type 0} (κ : Kind K) (m₀ : Meaning) (need first : ℕ) where
     pub going_ended : b ≡ 0 → run m₀ (frees_from κ m₀.count m₀.size need first) ≡ (bare (Err (Broken 9 0)), m)
     unfolding run
     going_ended e = G.rest ∙ rw (more, e)
+
+    -- the list ends there, and so do the blocks that were seen
+    pub seen_ended : b ≡ 0 → xs ≡ frees_seen m₀ need first
+    unfolding frees_seen
+    seen_ended e = sym (G.seen ∙ (rw (more, e) (append-nil xs)))
+
+    -- reading changes the tally alone, so a block is answered as it was at the start
+    same_answer : free_answer (refusal m b m.size) b (see_free m.count (m.contents b)) ≡ free_answer (refusal m₀ b m₀.size) b (see_free m₀.count (m₀.contents b))
+    same_answer = rw (G.count, G.size, G.contents, G.mark)
 
     module _ (p : 1 ≤ b) (after : Meaning) (tallies : after ≡ tallied m) where
       abbrev seen : Seen ℕ
@@ -60,6 +72,17 @@ module _ {K : Type 0} (κ : Kind K) (m₀ : Meaning) (need first : ℕ) where
           by None (right d) h = absurd (let z : ◌≡◌ {A = ℕ} 0 1 = cc in omega arith)
           by (Some f) s h = let q : e ≡ Unreadable f = cc in rw (q, tallies)
 
+      not_zero : (b == 0) ≡ false
+      not_zero = ne_eqb b 0 (λ (e : b ≡ 0). omega arith)
+
+      pub seen_stopped : (e : Refusal) → Err e ≡ free_answer (refusal m b m.size) b seen → xs ≡ frees_seen m₀ need first
+      unfolding frees_seen
+      seen_stopped e h = let a = sym (h ∙ same_answer) in sym (G.seen ∙ (rw (more, not_zero, a) (append-nil xs)))
+
+      seen_on : (d : ℕ) → Ok d ≡ free_answer (refusal m b m.size) b seen → (ys : List ℕ) → ys ≡ xs ++ (b ∷ []) → frees_seen m₀ need first ≡ ys ++ frees_seen m₀ (need - (i + 1)) d
+      unfolding frees_seen
+      seen_on d h ys e = let a = sym (h ∙ same_answer) in G.seen ∙ (rw (more, not_zero, a, e) (sym (append_assoc xs (b ∷ []) (frees_seen m₀ (need - (i + 1)) d))))
+
       pub going_on : (d : ℕ) → Ok d ≡ free_answer (refusal m b m.size) b seen → (ys : List ℕ) → ys ≡ xs ++ (b ∷ []) → Going after (i + 1) d (len + 1) ys
       unfolding run
       going_on d h ys e =
@@ -68,6 +91,9 @@ module _ {K : Type 0} (κ : Kind K) (m₀ : Meaning) (need first : ℕ) where
             count = ap (λ (x : Meaning). x.count) tallies ∙ G.count;
             size = ap (λ (x : Meaning). x.size) tallies ∙ G.size;
             pushed = let q = G.pushed in omega arith;
+            contents = ap (λ (x : Meaning). x.contents) tallies ∙ G.contents;
+            mark = ap (λ (x : Meaning). x.mark) tallies ∙ G.mark;
+            seen = seen_on d h ys e;
           }
         where
           same : (l : ℕ) → run (tallied m) (with_frees κ m₀.count m₀.size tt (need - (i + 1)) l (λ ys rest. done (xs ++ b ∷ ys, rest))) ≡ left_of (tallied m) (i + 1) l (xs ++ (b ∷ []))
@@ -81,3 +107,7 @@ module _ {K : Type 0} (κ : Kind K) (m₀ : Meaning) (need first : ℕ) where
   pub going_done : (m : Meaning) (b len : ℕ) (xs : List ℕ) → Going m need b len xs → run m₀ (frees_from κ m₀.count m₀.size need first) ≡ (Ok (xs, b), m)
   unfolding run
   going_done m b len xs G = let z : need - need ≡ 0 = omega arith in G.rest ∙ rw (z, append-nil xs)
+
+  pub seen_done : (m : Meaning) (b len : ℕ) (xs : List ℕ) → Going m need b len xs → xs ≡ frees_seen m₀ need first
+  unfolding frees_seen
+  seen_done m b len xs G = let z : need - need ≡ 0 = omega arith in sym (G.seen ∙ (rw z (append-nil xs)))

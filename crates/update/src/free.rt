@@ -4,7 +4,7 @@ ghost use Rattle.std.specs.Prelude.{◌≡◌, ℕ, ◌≤◌, length, None, Ok}
 ghost use Rattle.store.specs.Calls.{refusal};
 ghost use Rattle.store.specs.Meaning.{tallied};
 ghost use Rattle.tree.specs.Nodes.{see_free};
-ghost use Rattle.update.specs.Frees.{FreesRead, free_answer};
+ghost use Rattle.update.specs.Frees.{FreesRead, free_answer, frees_seen};
 ghost use Rattle.update.specs.Spares.{spare_of};
 
 use crate::spare::Spare;
@@ -43,6 +43,7 @@ fn read_free<S: Store>(store: &mut S, block: u32, page: &mut [u8]) -> Result<u32
 }
 
 /// Reads `need` blocks of the free list from `first` on, by way of the page, and answers the block after them.
+/// On a refusal too the spare blocks are those that were read and examined before it.
 pub fn read_frees<S: Store, K: Key>(
     store: &mut S,
     need: usize,
@@ -55,6 +56,7 @@ pub fn read_frees<S: Store, K: Key>(
     requires few { need ≤ 12 }
     requires empty { spare.old.len ≡ 0 }
     ensures read { FreesRead K.Key.kind (S.Store.meaning store.old) need first result (spare_of spare.new) (S.Store.meaning store.new) }
+    ensures spare { spare_of spare.new ≡ frees_seen (S.Store.meaning store.old) need first }
     ensures len { (rest : ℕ) → result ≡ Ok rest → spare.new.len ≡ need }
 {
     let mut block = first;
