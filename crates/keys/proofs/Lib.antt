@@ -1,3 +1,4 @@
 pub mod RowSteps
+pub mod Comparing
 pub mod DashSteps
 pub mod Shown

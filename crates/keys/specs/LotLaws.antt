@@ -8,10 +8,11 @@ use Rattle.std.proofs.ByRecursion.{All-append}
 use Rattle.std.proofs.lemmas.Bool.Decides.{nat_tests}
 use Rattle.keys.specs.declared.lot.Lot.{Lot}
 use Rattle.keys.specs.Bytes.{are_bytes, big_endian, from_bytes}
-use Rattle.keys.specs.Kind.{Lawful, Only}
+use Rattle.keys.specs.Kind.{Lawful, Only, order}
+use Rattle.std.specs.Ordering.{nat_cmp, ordering_then}
 use Rattle.keys.specs.Lots.{lot_less, lot_bytes, lot_at, lot_in, lot_kind}
 use Rattle.keys.specs.Digits.{under_big, from_big, big_from, written_bytes, bytes_parts, if_some}
-use Rattle.keys.specs.Order.{by_first, first_only, last_only}
+use Rattle.keys.specs.Order.{by_first, first_only, last_only, then_standing, nat_standing}
 
 pub same_lot : (a b : Lot) → a.year ≡ b.year → a.press ≡ b.press → a.number ≡ b.number → a ≡ b
 same_lot a b p q r = λ i.
@@ -83,3 +84,6 @@ lot_lawful =
           let r = if_some (are_bytes 7 bs) (lot_in bs) a e in
           let p = bytes_parts 7 bs r.0 in ap lot_bytes (sym r.1) ∙ lot_again bs p.0 p.1;
     }
+
+pub lot_ordered : (a b : Lot) → ordering_then (nat_cmp a.year b.year) (ordering_then (nat_cmp a.press b.press) (nat_cmp a.number b.number)) ≡ order lot_kind a b
+lot_ordered a b = then_standing a.year b.year _ _ _ (then_standing a.press b.press _ _ _ (nat_standing a.number b.number))

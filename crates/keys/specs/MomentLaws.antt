@@ -11,7 +11,8 @@ use Rattle.std.proofs.lemmas.Int.Digits.{number_lt}
 use Rattle.std.proofs.lemmas.Bool.{ltb-true, lt-ltb, le-ltb}
 use Rattle.keys.specs.declared.moment.Moment.{Moment}
 use Rattle.keys.specs.Bytes.{are_bytes, big_endian, from_bytes}
-use Rattle.keys.specs.Kind.{Lawful, Only}
+use Rattle.std.specs.Ordering.{int_cmp}
+use Rattle.keys.specs.Kind.{order, Lawful, Only}
 use Rattle.keys.specs.Kind.Only.{lower, higher, same}
 use Rattle.keys.specs.Moments.{moment_less, moment_bytes, moment_at, moment_in, moment_of, moment_kind}
 use Rattle.keys.specs.Digits.{under_big, from_big, big_from, written_bytes, bytes_parts, if_some, eight_is}
@@ -117,3 +118,6 @@ no_moment z h = when_none (nat_lt (mag z) (2 ^ 63)) _ (le-ltb (mag z) (2 ^ 63) h
 pub none_below : (n : ℕ) → 2 ^ 63 < n → moment_of (neg_ℤ (pos n)) ≡ None
 none_below zero h = absurd (omega arith)
 none_below (suc n) h = no_moment (negsuc n) (omega arith)
+
+pub moment_ordered : (a b : Moment) → int_cmp a.seconds b.seconds ≡ order moment_kind a b
+moment_ordered a b = refl

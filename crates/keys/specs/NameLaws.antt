@@ -9,12 +9,15 @@ use Rattle.std.proofs.lemmas.Bool.{cases_order, and_parts, or_cases, leb-true, e
 use Rattle.std.proofs.lemmas.Bool.Decides.{nat_tests}
 use Rattle.keys.specs.declared.name.Name.{Name}
 use Rattle.keys.specs.Bytes.{are_bytes}
-use Rattle.keys.specs.Kind.{Lawful, Only}
+use Rattle.keys.specs.Kind.{Lawful, Only, order}
+use Rattle.std.specs.declared.cmp.Ordering.TheVariants.{Equal}
+use Rattle.std.specs.declared.cmp.Ordering.{Ordering}
+use Rattle.std.specs.Ordering.{nat_cmp, ordering_then}
 use Rattle.keys.specs.Kind.Only.{lower, higher, same}
 use Rattle.keys.specs.Names.{name_bytes, earlier, name_less, first_eight, name_in, name_kind}
 use Rattle.keys.specs.Padding.{is_character, may_follow, goes_on, padded, all_characters}
 use Rattle.keys.specs.Digits.{written_bytes, bytes_parts, eight_is}
-use Rattle.keys.specs.Order.{by_less, by_same}
+use Rattle.keys.specs.Order.{by_less, by_same, then_standing, last_standing}
 use Rattle.keys.specs.WhenLemmas.{when_some, when_none, when_is}
 
 pub same_name : (a b : Name) → name_bytes a ≡ name_bytes b → a ≡ b
@@ -127,3 +130,10 @@ characters_more bs i h = rw (drop_more bs i 0 h)
 pub characters_all : (bs : List ℕ) (i : ℕ) → length bs ≤ i → all_characters (drop i bs) ≡ true
 unfolding all_characters
 characters_all bs i h = rw (drop_all i bs h)
+
+pub name_ordered : (a b : Name)
+    → ordering_then (nat_cmp a.first b.first) (ordering_then (nat_cmp a.second b.second) (ordering_then (nat_cmp a.third b.third) (ordering_then (nat_cmp a.fourth b.fourth)
+    (ordering_then (nat_cmp a.fifth b.fifth) (ordering_then (nat_cmp a.sixth b.sixth) (ordering_then (nat_cmp a.seventh b.seventh) (nat_cmp a.eighth b.eighth))))))) ≡ order name_kind a b
+name_ordered a b =
+    then_standing a.first b.first _ _ _ (then_standing a.second b.second _ _ _ (then_standing a.third b.third _ _ _ (then_standing a.fourth b.fourth _ _ _
+    (then_standing a.fifth b.fifth _ _ _ (then_standing a.sixth b.sixth _ _ _ (then_standing a.seventh b.seventh _ _ _ (last_standing a.eighth b.eighth)))))))

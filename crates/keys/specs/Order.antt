@@ -3,6 +3,9 @@ use Rattle.std.specs.Prelude.{◌≡◌, ℕ, ◌<◌, Bool, true, false, cond, 
 use Rattle.std.proofs.Common.{sym, ap, ◌∙◌, ⊎_elim, arith}
 use Rattle.std.proofs.lemmas.Bool.{cases_order, lt-ltb, le-ltb}
 use Rattle.std.proofs.lemmas.Bool.Decides.{nat_tests}
+use Rattle.std.specs.declared.cmp.Ordering.TheVariants.{Less, Equal, Greater}
+use Rattle.std.specs.declared.cmp.Ordering.{Ordering}
+use Rattle.std.specs.Ordering.{nat_cmp, ordering_then}
 use Rattle.keys.specs.Kind.{Only}
 use Rattle.keys.specs.Kind.Only.{lower, higher, same}
 
@@ -41,3 +44,16 @@ last_only part a b go =
     (λ h. lower (lt-ltb (part a) (part b) h) (le-ltb (part b) (part a) (omega arith)) (λ e. let q = ap part e in omega arith))
     (λ h. higher (lt-ltb (part b) (part a) h) (le-ltb (part a) (part b) (omega arith)) (λ e. let q = ap part e in omega arith)))
     (cases_order (part a) (part b))
+
+-- where two stand to one another, of whether the first is less and whether the second is
+abbrev pub standing : Bool → Bool → Ordering
+standing l g = cond l Less (cond g Greater Equal)
+
+pub nat_standing : (x y : ℕ) → nat_cmp x y ≡ standing (nat_lt x y) (nat_lt y x)
+nat_standing x y = grind (arith, nat_tests)
+
+pub then_standing : (x y : ℕ) (l g : Bool) (o : Ordering) → o ≡ standing l g → ordering_then (nat_cmp x y) o ≡ standing (by_first x y l) (by_first y x g)
+then_standing x y l g o e = grind (arith, nat_tests)
+
+pub last_standing : (x y : ℕ) → nat_cmp x y ≡ standing (by_first x y false) (by_first y x false)
+last_standing x y = grind (arith, nat_tests)

@@ -45,7 +45,7 @@ fn climb<K: Key>(rows: &[u8], stride: usize, count: usize) -> bool
         let Some(key) = key_at::<K>(rows, i * stride) else {
             return false;
         };
-        if !last.less(&key) {
+        if last >= key {
             return false;
         }
         last = key;

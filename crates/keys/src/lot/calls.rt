@@ -1,7 +1,7 @@
 //! Lots as keys.
 ghost use Rattle.std.specs.Prelude.{◌≡◌};
 ghost use Rattle.keys.specs.Lots.{lot_at, lot_kind};
-ghost use Rattle.keys.specs.LotLaws.{lot_lawful};
+ghost use Rattle.keys.specs.LotLaws.{lot_lawful, lot_ordered};
 
 use crate::bytes::seven;
 use crate::key::{Key, WrongLength};
@@ -35,6 +35,8 @@ impl Key for Lot {
 
     ghost kind = { lot_kind };
 
+    ghost ordered = { lot_ordered };
+
     ghost lawful = { lot_lawful };
 
     fn key_width() -> usize {
@@ -43,16 +45,6 @@ impl Key for Lot {
 
     fn key_code() -> u8 {
         Self::CODE
-    }
-
-    fn less(&self, other: &Lot) -> bool {
-        if self.year != other.year {
-            return self.year < other.year;
-        }
-        if self.press != other.press {
-            return self.press < other.press;
-        }
-        self.number < other.number
     }
 
     fn write(&self, out: &mut [u8]) -> Result<(), WrongLength> {

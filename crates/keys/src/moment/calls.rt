@@ -1,7 +1,7 @@
 //! Moments as keys.
 ghost use Rattle.std.specs.Prelude.{◌≡◌, Some};
 ghost use Rattle.keys.specs.Moments.{moment_at, moment_bytes, moment_kind, moment_of};
-ghost use Rattle.keys.specs.MomentLaws.{moment_lawful};
+ghost use Rattle.keys.specs.MomentLaws.{moment_lawful, moment_ordered};
 
 use crate::bytes::eight;
 use crate::key::{Key, WrongLength};
@@ -46,6 +46,8 @@ impl Key for Moment {
 
     ghost kind = { moment_kind };
 
+    ghost ordered = { moment_ordered };
+
     ghost lawful = { moment_lawful };
 
     fn key_width() -> usize {
@@ -54,10 +56,6 @@ impl Key for Moment {
 
     fn key_code() -> u8 {
         Self::CODE
-    }
-
-    fn less(&self, other: &Moment) -> bool {
-        self.seconds < other.seconds
     }
 
     fn write(&self, out: &mut [u8]) -> Result<(), WrongLength> {

@@ -2,7 +2,7 @@
 ghost use Rattle.std.specs.Prelude.{◌≡◌};
 ghost use Rattle.keys.specs.Names.{name_bytes, first_eight, name_in, name_kind, spelled};
 ghost use Rattle.keys.specs.Padding.{all_characters, is_character, may_follow, padded};
-ghost use Rattle.keys.specs.NameLaws.{name_lawful};
+ghost use Rattle.keys.specs.NameLaws.{name_lawful, name_ordered};
 
 use crate::bytes::{byte_or_zero, eight};
 use crate::key::{Key, WrongLength};
@@ -109,6 +109,8 @@ impl Key for Name {
 
     ghost kind = { name_kind };
 
+    ghost ordered = { name_ordered };
+
     ghost lawful = { name_lawful };
 
     fn key_width() -> usize {
@@ -117,31 +119,6 @@ impl Key for Name {
 
     fn key_code() -> u8 {
         Self::CODE
-    }
-
-    fn less(&self, other: &Name) -> bool {
-        if self.first != other.first {
-            return self.first < other.first;
-        }
-        if self.second != other.second {
-            return self.second < other.second;
-        }
-        if self.third != other.third {
-            return self.third < other.third;
-        }
-        if self.fourth != other.fourth {
-            return self.fourth < other.fourth;
-        }
-        if self.fifth != other.fifth {
-            return self.fifth < other.fifth;
-        }
-        if self.sixth != other.sixth {
-            return self.sixth < other.sixth;
-        }
-        if self.seventh != other.seventh {
-            return self.seventh < other.seventh;
-        }
-        self.eighth < other.eighth
     }
 
     fn write(&self, out: &mut [u8]) -> Result<(), WrongLength> {

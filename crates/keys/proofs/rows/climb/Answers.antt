@@ -1,4 +1,5 @@
 use Rattle.std.proofs.Common.{length, arith, rules}
+use Rattle.keys.proofs.Comparing.{ge_less}
 use Rattle.keys.proofs.RowSteps.{entry_fits, room, rise_none, rise_first, rise_more, rise_all}
 use Rattle.keys.proofs.rows.climb.Goals as goal
 
@@ -27,11 +28,11 @@ key_at-requires-in-loop-i g c =
 pub returns-in_default-key_at : goal.returns-in_default-key_at
 returns-in_default-key_at g c = search (rules, rise_more)
 
-pub returns-then-not-less : goal.returns-then-not-less
-returns-then-not-less g c = search (rules, rise_more)
+pub returns-then-ge : goal.returns-then-ge
+returns-then-ge g c = let h = ge_less g.K.Key.kind g.met.K.Ord.matches_partial_cmp g.met.K.Key.ordered c.loop-i.last c.in-Some-key_at.key in search (rules, rise_more)
 
 pub loop-i-preserved : goal.loop-i-preserved
-loop-i-preserved g c = search (rules, rise_more)
+loop-i-preserved g c = let h = ge_less g.K.Key.kind g.met.K.Ord.matches_partial_cmp g.met.K.Key.ordered c.loop-i.last c.in-Some-key_at.key in search (rules, rise_more)
 
 pub returns : goal.returns
 returns g c = search (rules, rise_all)
