@@ -1,34 +1,31 @@
 //! Bytes of a known number.
-ghost use Rattle.std.specs.Prelude.{◌≡◌, true, false, MatchOption, slice_index};
+ghost use Rattle.std.specs.Prelude.{◌≡◌, ◌==◌, true, false, cond, length, MatchOption, Ok, Err, slice_index};
 ghost use Rattle.keys.specs.Bytes.{are_bytes};
 
-/// The bytes, if there are seven.
-pub(crate) fn seven(bytes: &[u8]) -> Option<[u8; 7]>
-    ensures { MatchOption result (are_bytes 7 bytes.now ≡ false) (λ all. (are_bytes 7 bytes.now ≡ true) × (all ≡ bytes.now)) }
+use crate::key::WrongLength;
+
+/// The bytes, if there are N.
+pub(crate) fn exactly<const N: usize>(bytes: &[u8]) -> Option<[u8; N]>
+    ensures { MatchOption result (are_bytes N bytes.now ≡ false) (λ all. (are_bytes N bytes.now ≡ true) × (all ≡ bytes.now)) }
 {
-    if bytes.len() != 7 {
-        return None;
-    }
-    Some([
-        bytes[0], bytes[1], bytes[2], bytes[3], bytes[4], bytes[5], bytes[6],
-    ])
+    bytes.try_into().ok()
 }
 
-/// The bytes, if there are eight.
-pub(crate) fn eight(bytes: &[u8]) -> Option<[u8; 8]>
-    ensures { MatchOption result (are_bytes 8 bytes.now ≡ false) (λ all. (are_bytes 8 bytes.now ≡ true) × (all ≡ bytes.now)) }
+/// Puts bytes into a buffer of their length. Another buffer is refused, and stays as it is.
+pub(crate) fn put<const N: usize>(out: &mut [u8], all: &[u8; N]) -> Result<(), WrongLength>
+    ensures answer { result ≡ cond (length out.old == N) (Ok tt) (Err (record {})) }
+    ensures after { out.new ≡ cond (length out.old == N) all.now out.old }
 {
-    if bytes.len() != 8 {
-        return None;
+    if out.len() != N {
+        return Err(WrongLength);
     }
-    Some([
-        bytes[0], bytes[1], bytes[2], bytes[3], bytes[4], bytes[5], bytes[6], bytes[7],
-    ])
+    out.copy_from_slice(all);
+    Ok(())
 }
 
 /// The byte at a place, or zero past the end.
 pub(crate) fn byte_or_zero(bytes: &[u8], at: usize) -> u8
     ensures { result ≡ slice_index bytes.now at }
 {
-    if at < bytes.len() { bytes[at] } else { 0 }
+    bytes.get(at).copied().unwrap_or(0)
 }

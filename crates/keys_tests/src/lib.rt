@@ -36,13 +36,13 @@ mod tests {
     #[test]
     fn lots_go_by_year_then_press_then_number(rt: HostRuntime) {
         let lot = Lot::new(2026, 3, 17);
-        assert!(rt; Lot::new(2025, 255, 99).less(&lot));
-        assert!(rt; Lot::new(2026, 2, 99).less(&lot));
-        assert!(rt; Lot::new(2026, 3, 16).less(&lot));
-        assert!(rt; !lot.less(&lot));
-        assert_eq!(rt; lot.compare(&lot), Ordering::Equal);
-        assert_eq!(rt; lot.compare(&Lot::new(2026, 3, 18)), Ordering::Less);
-        assert_eq!(rt; lot.compare(&Lot::new(2026, 2, 18)), Ordering::Greater);
+        assert!(rt; Lot::new(2025, 255, 99) < lot);
+        assert!(rt; Lot::new(2026, 2, 99) < lot);
+        assert!(rt; Lot::new(2026, 3, 16) < lot);
+        assert!(rt; !(lot < lot));
+        assert_eq!(rt; lot.cmp(&lot), Ordering::Equal);
+        assert_eq!(rt; lot.cmp(&Lot::new(2026, 3, 18)), Ordering::Less);
+        assert_eq!(rt; lot.cmp(&Lot::new(2026, 2, 18)), Ordering::Greater);
     }
 
     #[test]
@@ -63,10 +63,10 @@ mod tests {
 
     #[test]
     fn moments_go_as_numbers(rt: HostRuntime) {
-        assert!(rt; Moment::new(-1).less(&Moment::new(0)));
-        assert!(rt; Moment::new(i64::MIN).less(&Moment::new(i64::MAX)));
-        assert!(rt; !Moment::new(0).less(&Moment::new(-1)));
-        assert_eq!(rt; Moment::new(0).compare(&Moment::new(0)), Ordering::Equal);
+        assert!(rt; Moment::new(-1) < Moment::new(0));
+        assert!(rt; Moment::new(i64::MIN) < Moment::new(i64::MAX));
+        assert!(rt; !(Moment::new(0) < Moment::new(-1)));
+        assert_eq!(rt; Moment::new(0).cmp(&Moment::new(0)), Ordering::Equal);
     }
 
     #[test]
@@ -91,10 +91,10 @@ mod tests {
         let ash = name(b"Ash")?;
         let ashes = name(b"Ashes")?;
         let elm = name(b"Elm")?;
-        assert!(rt; ash.less(&ashes));
-        assert!(rt; ashes.less(&elm));
-        assert!(rt; !elm.less(&ash));
-        assert_eq!(rt; elm.compare(&elm), Ordering::Equal);
+        assert!(rt; ash < ashes);
+        assert!(rt; ashes < elm);
+        assert!(rt; !(elm < ash));
+        assert_eq!(rt; elm.cmp(&elm), Ordering::Equal);
         Ok(())
     }
 

@@ -3,20 +3,12 @@ ghost use Rattle.std.specs.Prelude.{◌≡◌};
 ghost use Rattle.keys.specs.Lots.{lot_at, lot_kind};
 ghost use Rattle.keys.specs.LotLaws.{lot_lawful, lot_ordered};
 
-use crate::bytes::seven;
+use crate::bytes::{exactly, put};
 use crate::key::{Key, WrongLength};
 use crate::lot::Lot;
 
 impl Lot {
     pub fn new(year: u16, press: u8, number: u32) -> Lot
-        ensures value { result ≡ lot_at year press number }
-        ensures parts { (result.year ≡ year) × (result.press ≡ press) × (result.number ≡ number) }
-    {
-        Lot::of(year, press, number)
-    }
-
-    /// The same, proved once from the fields.
-    fn of(year: u16, press: u8, number: u32) -> Lot
         ensures value { result ≡ lot_at year press number }
         ensures parts { (result.year ≡ year) × (result.press ≡ press) × (result.number ≡ number) }
     {
@@ -48,21 +40,15 @@ impl Key for Lot {
     }
 
     fn write(&self, out: &mut [u8]) -> Result<(), WrongLength> {
-        if out.len() != Self::WIDTH {
-            return Err(WrongLength);
-        }
         let [y0, y1] = self.year.to_be_bytes();
         let [n0, n1, n2, n3] = self.number.to_be_bytes();
-        out.copy_from_slice(&[y0, y1, self.press, n0, n1, n2, n3]);
-        Ok(())
+        put(out, &[y0, y1, self.press, n0, n1, n2, n3])
     }
 
     fn read(bytes: &[u8]) -> Option<Lot> {
-        let Some(all) = seven(bytes) else {
-            return None;
-        };
-        let year = u16::from_be_bytes([all[0], all[1]]);
-        let number = u32::from_be_bytes([all[3], all[4], all[5], all[6]]);
-        Some(Lot::of(year, all[2], number))
+        let [y0, y1, press, n0, n1, n2, n3] = exactly::<7>(bytes)?;
+        let year = u16::from_be_bytes([y0, y1]);
+        let number = u32::from_be_bytes([n0, n1, n2, n3]);
+        Some(Lot::new(year, press, number))
     }
 }

@@ -3,20 +3,12 @@ ghost use Rattle.std.specs.Prelude.{◌≡◌, Some};
 ghost use Rattle.keys.specs.Moments.{moment_at, moment_bytes, moment_kind, moment_of};
 ghost use Rattle.keys.specs.MomentLaws.{moment_lawful, moment_ordered};
 
-use crate::bytes::eight;
+use crate::bytes::{exactly, put};
 use crate::key::{Key, WrongLength};
 use crate::moment::Moment;
 
 impl Moment {
     pub fn new(seconds: i64) -> Moment
-        ensures value { Some result ≡ moment_of seconds }
-        ensures parts { result.seconds ≡ seconds }
-    {
-        Moment::of_seconds(seconds)
-    }
-
-    /// The same, proved once from the field.
-    fn of_seconds(seconds: i64) -> Moment
         ensures value { Some result ≡ moment_of seconds }
         ensures parts { result.seconds ≡ seconds }
     {
@@ -59,17 +51,11 @@ impl Key for Moment {
     }
 
     fn write(&self, out: &mut [u8]) -> Result<(), WrongLength> {
-        if out.len() != Self::WIDTH {
-            return Err(WrongLength);
-        }
-        out.copy_from_slice(&self.to_bytes());
-        Ok(())
+        put(out, &self.to_bytes())
     }
 
     fn read(bytes: &[u8]) -> Option<Moment> {
-        let Some(all) = eight(bytes) else {
-            return None;
-        };
+        let all = exactly(bytes)?;
         Some(Moment::of_bits(u64::from_be_bytes(all)))
     }
 }

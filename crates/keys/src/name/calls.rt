@@ -4,7 +4,7 @@ ghost use Rattle.keys.specs.Names.{name_bytes, first_eight, name_in, name_kind, 
 ghost use Rattle.keys.specs.Padding.{all_characters, is_character, may_follow, padded};
 ghost use Rattle.keys.specs.NameLaws.{name_lawful, name_ordered};
 
-use crate::bytes::{byte_or_zero, eight};
+use crate::bytes::{byte_or_zero, exactly, put};
 use crate::key::{Key, WrongLength};
 use crate::name::Name;
 
@@ -122,17 +122,10 @@ impl Key for Name {
     }
 
     fn write(&self, out: &mut [u8]) -> Result<(), WrongLength> {
-        if out.len() != Self::WIDTH {
-            return Err(WrongLength);
-        }
-        out.copy_from_slice(&self.to_bytes());
-        Ok(())
+        put(out, &self.to_bytes())
     }
 
     fn read(bytes: &[u8]) -> Option<Name> {
-        let Some(all) = eight(bytes) else {
-            return None;
-        };
-        Name::of(all)
+        Name::of(exactly(bytes)?)
     }
 }
