@@ -1,44 +1,43 @@
--- Going through text up to a dash.
-use Rattle.std.proofs.Common.{◌≡◌, ℕ, ◌+◌, ◌-◌, ◌<◌, ◌≤◌, List, [], ◌∷◌, ◌++◌, length, get_or, take, drop, sym, ap, ◌∙◌, append_assoc, append-nil, arith}
-use Rattle.std.proofs.lemmas.List.{drop_more, drop_all, take_all, take_more}
-use Rattle.std.proofs.lemmas.Bool.{eq-eqb, ne_eqb}
-use Rattle.keys.specs.Dashes.{to_dash, past_dash}
+-- The two parts of text by the place of its first dash.
+use Rattle.std.specs.Prelude.{◌==◌, nat_lt}
+use Rattle.std.proofs.Common.{◌≡◌, ℕ, suc, ◌+◌, ◌≤◌, Bool, true, false, not, cond, List, [], ◌∷◌, length, take, drop, Some, None, sym, refl, ap, arith}
+use Rattle.std.specs.List.{position, prefix_len}
+use Rattle.std.proofs.lemmas.Bool.{ltb-false}
+use Rattle.keys.specs.Dashes.{dash, to_dash, past_dash}
 
--- a dash is here
-pub dash_before : (cs : List ℕ) (i : ℕ) → i < length cs → get_or cs i 0 ≡ 45 → to_dash (drop i cs) ≡ []
+-- how many bytes come before the first dash
+abbrev pub before : List ℕ → ℕ
+before cs = prefix_len (λ c. not (c == dash)) cs
+
+before_more : (t : Bool) (c : ℕ) (cs : List ℕ) → to_dash cs ≡ take (before cs) cs → cond t [] (c ∷ to_dash cs) ≡ take (cond (not t) (1 + before cs) 0) (c ∷ cs)
+before_more true c cs e = refl
+before_more false c cs e = let q : 1 + before cs ≡ suc (before cs) = omega arith in rw q (ap (λ xs. c ∷ xs) e)
+
+pub before_is : (cs : List ℕ) → to_dash cs ≡ take (before cs) cs
 unfolding to_dash
-dash_before cs i h e = rw (drop_more cs i 0 h, eq-eqb (get_or cs i 0) 45 e)
+before_is [] = refl
+before_is (c ∷ cs) = before_more (c == dash) c cs (before_is cs)
 
-pub dash_after : (cs : List ℕ) (i : ℕ) → i < length cs → get_or cs i 0 ≡ 45 → past_dash (drop i cs) ≡ drop (i + 1) cs
+past_more : (t : Bool) (c : ℕ) (cs : List ℕ) → past_dash cs ≡ drop (before cs + 1) cs → cond t cs (past_dash cs) ≡ drop (cond (not t) (1 + before cs) 0 + 1) (c ∷ cs)
+past_more true c cs e = refl
+past_more false c cs e = let q : 1 + before cs + 1 ≡ suc (before cs + 1) = omega arith in rw q e
+
+pub past_is : (cs : List ℕ) → past_dash cs ≡ drop (before cs + 1) cs
 unfolding past_dash
-dash_after cs i h e = rw (drop_more cs i 0 h, eq-eqb (get_or cs i 0) 45 e)
+past_is [] = refl
+past_is (c ∷ cs) = past_more (c == dash) c cs (past_is cs)
 
--- it is not
-pub more_before : (cs : List ℕ) (i : ℕ) → i < length cs → (get_or cs i 0 ≡ 45 → ⊥) → to_dash (drop i cs) ≡ get_or cs i 0 ∷ to_dash (drop (i + 1) cs)
-unfolding to_dash
-more_before cs i h e = rw (drop_more cs i 0 h, ne_eqb (get_or cs i 0) 45 e)
+-- where there is a first dash, and where there is none
+pub at_first : (cs : List ℕ) (i : ℕ) → Some i ≡ position (λ b. b == dash) cs → before cs ≡ i
+at_first cs i e = by (nat_lt (before cs) (length cs)) e
+  where
+    by : (t : Bool) → Some i ≡ cond t (Some (before cs)) None → before cs ≡ i
+    by true q = sym (ap (λ o. elim o [ None ↦ 0 | Some m ↦ m ]) q)
+    by false q = absurd (let y : ◌≡◌ {A = ℕ} 1 0 = ap (λ o. elim o [ None ↦ 0 | Some m ↦ 1 ]) q in omega arith)
 
-pub more_after : (cs : List ℕ) (i : ℕ) → i < length cs → (get_or cs i 0 ≡ 45 → ⊥) → past_dash (drop i cs) ≡ past_dash (drop (i + 1) cs)
-unfolding past_dash
-more_after cs i h e = rw (drop_more cs i 0 h, ne_eqb (get_or cs i 0) 45 e)
-
-pub end_before : (cs : List ℕ) (i : ℕ) → length cs ≤ i → to_dash (drop i cs) ≡ []
-unfolding to_dash
-end_before cs i h = rw (drop_all i cs h)
-
-pub end_after : (cs : List ℕ) (i : ℕ) → length cs ≤ i → past_dash (drop i cs) ≡ []
-unfolding past_dash
-end_after cs i h = rw (drop_all i cs h)
-
--- the two parts, where there is a dash and where there is none
-pub cut_here : (cs : List ℕ) (i : ℕ) → i < length cs → get_or cs i 0 ≡ 45 → to_dash cs ≡ take i cs ++ to_dash (drop i cs) → take (i - 0) cs ≡ to_dash cs
-cut_here cs i h e inv =
-    let z : i - 0 ≡ i = omega arith in
-    rw z (sym (inv ∙ (ap (λ xs. take i cs ++ xs) (dash_before cs i h e) ∙ append-nil (take i cs))))
-
-pub cut_on : (cs : List ℕ) (i : ℕ) → i < length cs → (get_or cs i 0 ≡ 45 → ⊥) → to_dash cs ≡ take i cs ++ to_dash (drop i cs) → to_dash cs ≡ take (i + 1) cs ++ to_dash (drop (i + 1) cs)
-cut_on cs i h e inv =
-    inv ∙ (ap (λ xs. take i cs ++ xs) (more_before cs i h e) ∙ (sym (append_assoc (take i cs) (get_or cs i 0 ∷ []) (to_dash (drop (i + 1) cs))) ∙ ap (λ xs. xs ++ to_dash (drop (i + 1) cs)) (sym (take_more cs i 0 h))))
-
-pub cut_end : (cs : List ℕ) (i : ℕ) → length cs ≤ i → to_dash cs ≡ take i cs ++ to_dash (drop i cs) → cs ≡ to_dash cs
-cut_end cs i h inv = sym (inv ∙ (ap (λ xs. take i cs ++ xs) (end_before cs i h) ∙ (append-nil (take i cs) ∙ take_all i cs h)))
+pub no_dash : (cs : List ℕ) → None ≡ position (λ b. b == dash) cs → length cs ≤ before cs
+no_dash cs e = by (nat_lt (before cs) (length cs)) refl e
+  where
+    by : (t : Bool) → nat_lt (before cs) (length cs) ≡ t → None ≡ cond t (Some (before cs)) None → length cs ≤ before cs
+    by true r q = absurd (let y : ◌≡◌ {A = ℕ} 0 1 = ap (λ o. elim o [ None ↦ 0 | Some m ↦ 1 ]) q in omega arith)
+    by false r q = ltb-false (before cs) (length cs) r

@@ -1,5 +1,5 @@
 -- Seconds that no moment has.
-use Rattle.std.proofs.Common.{◌≡◌, ℕ, ◌+◌, ◌^◌, ◌<◌, ◌≤◌, Bool, true, false, cond, ℤ, pos, Some, None, Option, FitsSigned, nat_lt, sym, refl, ap, ◌∙◌, ⊎_elim, arith}
+use Rattle.std.proofs.Common.{◌≡◌, ℕ, ◌+◌, ◌^◌, ◌<◌, false, ℤ, pos, Some, None, Option, FitsSigned, sym, refl, ap, ⊎_elim, arith}
 use Rattle.std.specs.Int.Signed.{mag}
 use Rattle.std.specs.Int.{w64}
 use Rattle.std.proofs.lemmas.Bool.{lt-ltb, le-ltb, cases_order}
@@ -21,7 +21,7 @@ none_after (Some n) e = ⊎_elim (λ q. sym (at q)) (⊎_elim (λ l. absurd (low
     at q = rw (lt-ltb n (2 ^ 63 + 1) (omega arith)) (no_moment (pos n) (omega arith))
 
     low : n < 2 ^ 63 → ⊥
-    low l = let z : ◌≡◌ {A = Option ℕ} None (Some n) = rw (lt-ltb n (2 ^ 63) l) at e in let y : ◌≡◌ {A = ℕ} 0 1 = ap (λ o. elim o [ | None ↦ 0 | Some m ↦ 1 ]) z in omega arith
+    low l = let z : ◌≡◌ {A = Option ℕ} None (Some n) = rw (lt-ltb n (2 ^ 63) l) at e in let y : ◌≡◌ {A = ℕ} 0 1 = ap (λ o. elim o [ None ↦ 0 | Some m ↦ 1 ]) z in omega arith
 
     high : 2 ^ 63 < n → None ≡ moment_parts false (below (2 ^ 63 + 1) (Some n))
     high l = rw (le-ltb n (2 ^ 63 + 1) (omega arith))

@@ -1,5 +1,5 @@
 -- The laws of names.
-use Rattle.std.specs.Prelude.{◌≡◌, ℕ, ◌+◌, ◌<◌, ◌≤◌, Bool, true, false, cond, ◌&&◌, List, [], ◌∷◌, length, drop, Some, None, Option, ◌==◌, nat_le, slice_index, refl}
+use Rattle.std.specs.Prelude.{◌≡◌, ℕ, ◌+◌, ◌<◌, ◌≤◌, Bool, true, false, cond, ◌&&◌, List, [], ◌∷◌, ◌++◌, length, drop, Some, None, Option, ◌==◌, nat_le, slice_index, refl}
 use Rattle.std.proofs.Common.{sym, ap, subst, ◌∙◌, ⊎_elim, arith}
 use mathlib.Core.HLevel.{is_prop→PathP}
 use Rattle.std.proofs.Math.Bool.{Bool-set}
@@ -10,8 +10,6 @@ use Rattle.std.proofs.lemmas.Bool.Decides.{nat_tests}
 use Rattle.keys.specs.declared.name.Name.{Name}
 use Rattle.keys.specs.Bytes.{are_bytes}
 use Rattle.keys.specs.Kind.{Lawful, Only, order}
-use Rattle.std.specs.declared.cmp.Ordering.TheVariants.{Equal}
-use Rattle.std.specs.declared.cmp.Ordering.{Ordering}
 use Rattle.std.specs.Ordering.{nat_cmp, ordering_then}
 use Rattle.keys.specs.Kind.Only.{lower, higher, same}
 use Rattle.keys.specs.Names.{name_bytes, earlier, name_less, first_eight, name_in, name_kind}
@@ -123,6 +121,13 @@ name_lawful =
     }
 
 -- a loop over characters: one more, and all
+pub name_ordered : (a b : Name)
+    → ordering_then (nat_cmp a.first b.first) (ordering_then (nat_cmp a.second b.second) (ordering_then (nat_cmp a.third b.third) (ordering_then (nat_cmp a.fourth b.fourth)
+    (ordering_then (nat_cmp a.fifth b.fifth) (ordering_then (nat_cmp a.sixth b.sixth) (ordering_then (nat_cmp a.seventh b.seventh) (nat_cmp a.eighth b.eighth))))))) ≡ order name_kind a b
+name_ordered a b =
+    then_standing a.first b.first _ _ _ (then_standing a.second b.second _ _ _ (then_standing a.third b.third _ _ _ (then_standing a.fourth b.fourth _ _ _
+    (then_standing a.fifth b.fifth _ _ _ (then_standing a.sixth b.sixth _ _ _ (then_standing a.seventh b.seventh _ _ _ (last_standing a.eighth b.eighth)))))))
+
 pub characters_more : (bs : List ℕ) (i : ℕ) → i < length bs → all_characters (drop i bs) ≡ (is_character (slice_index bs i) && all_characters (drop (i + 1) bs))
 unfolding all_characters
 characters_more bs i h = rw (drop_more bs i 0 h)
@@ -131,9 +136,15 @@ pub characters_all : (bs : List ℕ) (i : ℕ) → length bs ≤ i → all_chara
 unfolding all_characters
 characters_all bs i h = rw (drop_all i bs h)
 
-pub name_ordered : (a b : Name)
-    → ordering_then (nat_cmp a.first b.first) (ordering_then (nat_cmp a.second b.second) (ordering_then (nat_cmp a.third b.third) (ordering_then (nat_cmp a.fourth b.fourth)
-    (ordering_then (nat_cmp a.fifth b.fifth) (ordering_then (nat_cmp a.sixth b.sixth) (ordering_then (nat_cmp a.seventh b.seventh) (nat_cmp a.eighth b.eighth))))))) ≡ order name_kind a b
-name_ordered a b =
-    then_standing a.first b.first _ _ _ (then_standing a.second b.second _ _ _ (then_standing a.third b.third _ _ _ (then_standing a.fourth b.fourth _ _ _
-    (then_standing a.fifth b.fifth _ _ _ (then_standing a.sixth b.sixth _ _ _ (then_standing a.seventh b.seventh _ _ _ (last_standing a.eighth b.eighth)))))))
+-- text of at most eight bytes, over eight zeros
+pub eight_of : (bs : List ℕ) → length bs ≤ 8 → bs ++ drop (length bs) (0 ∷ 0 ∷ 0 ∷ 0 ∷ 0 ∷ 0 ∷ 0 ∷ 0 ∷ []) ≡ first_eight bs
+eight_of [] l = refl
+eight_of (a ∷ []) l = refl
+eight_of (a ∷ b ∷ []) l = refl
+eight_of (a ∷ b ∷ c ∷ []) l = refl
+eight_of (a ∷ b ∷ c ∷ d ∷ []) l = refl
+eight_of (a ∷ b ∷ c ∷ d ∷ e ∷ []) l = refl
+eight_of (a ∷ b ∷ c ∷ d ∷ e ∷ f ∷ []) l = refl
+eight_of (a ∷ b ∷ c ∷ d ∷ e ∷ f ∷ g ∷ []) l = refl
+eight_of (a ∷ b ∷ c ∷ d ∷ e ∷ f ∷ g ∷ h ∷ []) l = refl
+eight_of (a ∷ b ∷ c ∷ d ∷ e ∷ f ∷ g ∷ h ∷ i ∷ bs) l = absurd (omega arith)

@@ -1,5 +1,5 @@
 //! Bytes of a known number.
-ghost use Rattle.std.specs.Prelude.{◌≡◌, ◌==◌, true, false, cond, length, MatchOption, Ok, Err, slice_index};
+ghost use Rattle.std.specs.Prelude.{◌≡◌, ◌==◌, true, false, cond, length, MatchOption, Ok, Err};
 ghost use Rattle.keys.specs.Bytes.{are_bytes};
 
 use crate::key::WrongLength;
@@ -21,11 +21,4 @@ pub(crate) fn put<const N: usize>(out: &mut [u8], all: &[u8; N]) -> Result<(), W
     }
     out.copy_from_slice(all);
     Ok(())
-}
-
-/// The byte at a place, or zero past the end.
-pub(crate) fn byte_or_zero(bytes: &[u8], at: usize) -> u8
-    ensures { result ≡ slice_index bytes.now at }
-{
-    bytes.get(at).copied().unwrap_or(0)
 }

@@ -4,7 +4,7 @@ ghost use Rattle.keys.specs.Names.{name_bytes, first_eight, name_in, name_kind, 
 ghost use Rattle.keys.specs.Padding.{all_characters, is_character, may_follow, padded};
 ghost use Rattle.keys.specs.NameLaws.{name_lawful, name_ordered};
 
-use crate::bytes::{byte_or_zero, exactly, put};
+use crate::bytes::{exactly, put};
 use crate::key::{Key, WrongLength};
 use crate::name::Name;
 
@@ -54,16 +54,9 @@ impl Name {
         if text.len() > 8 || !are_characters(text) {
             return None;
         }
-        Name::of([
-            byte_or_zero(text, 0),
-            byte_or_zero(text, 1),
-            byte_or_zero(text, 2),
-            byte_or_zero(text, 3),
-            byte_or_zero(text, 4),
-            byte_or_zero(text, 5),
-            byte_or_zero(text, 6),
-            byte_or_zero(text, 7),
-        ])
+        let mut all = [0; 8];
+        all[..text.len()].copy_from_slice(text);
+        Name::of(all)
     }
 
     /// The name that stands in eight bytes.
@@ -73,15 +66,16 @@ impl Name {
         if !is_padded(all) {
             return None;
         }
+        let [first, second, third, fourth, fifth, sixth, seventh, eighth] = all;
         Some(Name {
-            first: all[0],
-            second: all[1],
-            third: all[2],
-            fourth: all[3],
-            fifth: all[4],
-            sixth: all[5],
-            seventh: all[6],
-            eighth: all[7],
+            first,
+            second,
+            third,
+            fourth,
+            fifth,
+            sixth,
+            seventh,
+            eighth,
         })
     }
 

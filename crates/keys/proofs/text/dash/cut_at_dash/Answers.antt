@@ -1,26 +1,20 @@
-use Rattle.std.proofs.Common.{◌+◌, ◌-◌, length, drop, sym, ◌∙◌, arith, length-drop}
-use Rattle.std.proofs.lemmas.List.{take_all}
-use Rattle.keys.proofs.DashSteps.{dash_after, more_after, end_after, cut_here, cut_on, cut_end}
+use Rattle.std.proofs.Common.{◌+◌, ◌-◌, length, drop, arith, rules, length-drop}
+use Rattle.std.proofs.lemmas.List.{take_all, drop_all}
+use Rattle.keys.proofs.DashSteps.{before_is, past_is, at_first, no_dash}
 use Rattle.keys.proofs.text.dash.cut_at_dash.Goals as goal
 
-pub returns-then-text-i-eq45 : goal.returns-then-text-i-eq45
-returns-then-text-i-eq45 c =
-    let cs = c.args.text.now in
-    let i = c.loop-i.i in
-    record {
-      before = cut_here cs i (omega arith) (omega arith) c.loop-i.invariant.0;
-      after = let d = length-drop (i + 1) cs in
-          take_all (length cs - (i + 1)) (drop (i + 1) cs) (omega arith) ∙ sym (c.loop-i.invariant.1 ∙ dash_after cs i (omega arith) (omega arith));
-    }
+pub returns-in-Some-clause-before : goal.returns-in-Some-clause-before
+returns-in-Some-clause-before c = let i = at_first c.args.text.now c.in-Some.at c.in-Some.ensures in search (rules, before_is)
 
-pub loop-i-preserved : goal.loop-i-preserved
-loop-i-preserved c =
+pub returns-in-Some-clause-after : goal.returns-in-Some-clause-after
+returns-in-Some-clause-after c =
     let cs = c.args.text.now in
-    let i = c.loop-i.i in
-    (cut_on cs i (omega arith) (omega arith) c.loop-i.invariant.0, c.loop-i.invariant.1 ∙ more_after cs i (omega arith) (omega arith))
+    let i = at_first cs c.in-Some.at c.in-Some.ensures in
+    let d = length-drop (c.in-Some.at + 1) cs in
+    let t = take_all (length cs - (c.in-Some.at + 1)) (drop (c.in-Some.at + 1) cs) (omega arith) in search (rules, past_is)
 
-pub returns : goal.returns
-returns c =
-    let cs = c.args.text.now in
-    let i = c.loop-i.i in
-    record { before = cut_end cs i (omega arith) c.loop-i.invariant.0; after = sym (c.loop-i.invariant.1 ∙ end_after cs i (omega arith)) }
+pub returns-in-None-clause-before : goal.returns-in-None-clause-before
+returns-in-None-clause-before c = let n = no_dash c.args.text.now c.in-None.ensures in search (rules, before_is, take_all)
+
+pub returns-in-None-clause-after : goal.returns-in-None-clause-after
+returns-in-None-clause-after c = let n = no_dash c.args.text.now c.in-None.ensures in search (rules, past_is, drop_all)

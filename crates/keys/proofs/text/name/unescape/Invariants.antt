@@ -1,13 +1,10 @@
-use Rattle.std.proofs.Common.{◌≡◌, ◌-◌, ◌≤◌, length, take, drop}
+use Rattle.std.proofs.Common.{◌≡◌, ◌-◌, length}
 use Rattle.keys.specs.NameText.{unescaped}
 use Rattle.keys.specs.Escapes.{after}
 use Rattle.keys.proofs.text.name.unescape.Given as goal
 
-abbrev pub invariant-loop-at : goal.invariant-loop-at
-invariant-loop-at l =
-    (length l.bytes ≡ 8)
-    × (l.count ≤ 8)
-    × (unescaped 8 l.word ≡ after (take l.count l.bytes) (unescaped (8 - l.count) (drop l.at l.word)))
+abbrev pub invariant-loop-rest : goal.invariant-loop-rest
+invariant-loop-rest l = unescaped 8 l.word ≡ after l.bytes.items (unescaped (8 - length l.bytes.items) l.rest)
 
-abbrev pub decreases-loop-at : goal.decreases-loop-at
-decreases-loop-at l = length l.word - l.at
+abbrev pub decreases-loop-rest : goal.decreases-loop-rest
+decreases-loop-rest l = length l.rest

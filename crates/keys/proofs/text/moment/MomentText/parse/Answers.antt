@@ -1,8 +1,6 @@
-use Rattle.std.proofs.Common.{◌≡◌, ◌∙◌, false, ap, sym, arith, rules}
+use Rattle.std.proofs.Common.{rules}
 use Rattle.std.proofs.lemmas.List.{get_or_past}
-use Rattle.numerals.specs.Decimals.{below, number_in}
-use Rattle.keys.specs.Dashes.{dashed}
-use Rattle.keys.specs.MomentText.{moment_parts}
+use Rattle.numerals.specs.Decimals.{number_in}
 use Rattle.keys.proofs.MomentSteps.{none_after}
 use Rattle.keys.proofs.text.moment.MomentText.parse.Goals as goal
 
