@@ -1,6 +1,7 @@
 -- Going through hexadecimal digits two by two.
-use Rattle.std.proofs.Common.{◌≡◌, ℕ, ◌+◌, ◌*◌, ◌/◌, ◌%◌, ◌<◌, ◌≤◌, List, [], ◌∷◌, ◌++◌, length, get_or, take, drop, Some, None, Option, sym, refl, ap, ◌∙◌, append_assoc, append-nil, arith}
-use Rattle.std.proofs.lemmas.List.{drop_more, drop_all, take_more}
+use Rattle.std.proofs.Common.{◌≡◌, ℕ, zero, suc, ◌+◌, ◌*◌, ◌/◌, ◌%◌, ◌<◌, ◌≤◌, List, [], ◌∷◌, ◌++◌, length, get_or, take, drop, Some, None, Option, sym, refl, ap, ◌∙◌, append_assoc, append-nil, arith}
+use Rattle.std.specs.Simd.{first_chunks}
+use Rattle.std.proofs.lemmas.List.{drop_more, drop_all, take_more, drop-drop, get_or-take, get_or-drop}
 use Rattle.numerals.specs.Hexadecimals.{hex_byte, hex_bytes, hex_digit, hex_text, in_front}
 
 -- bytes before those in o
@@ -18,6 +19,23 @@ odd_digits (c ∷ d ∷ cs) h = rw (odd_digits cs (λ e. h (omega arith))) (none
     none : (o : Option ℕ) → in_front o None ≡ None
     none None = refl
     none (Some b) = refl
+
+-- the bytes of pair i
+pair_at : (k i : ℕ) (cs : List ℕ) → i < k → get_or (first_chunks 2 k cs) i [] ≡ take 2 (drop (2 * i) cs)
+pair_at zero i cs h = absurd (omega arith)
+pair_at (suc k) zero cs h = refl
+pair_at (suc k) (suc i) cs h =
+    let e : 2 + 2 * i ≡ 2 * suc i = omega arith in pair_at k i (drop 2 cs) (omega arith) ∙ ap (take 2) (drop-drop (2 * i) 2 cs ∙ ap (λ (n : ℕ). drop n cs) e)
+
+pair_byte : (k i j : ℕ) (cs : List ℕ) → i < k → j < 2 → get_or (get_or (first_chunks 2 k cs) i []) j 0 ≡ get_or cs (2 * i + j) 0
+pair_byte k i j cs h l =
+    ap (λ (p : List ℕ). get_or p j 0) (pair_at k i cs h) ∙ (get_or-take 2 (drop (2 * i) cs) j 0 l ∙ get_or-drop (2 * i) cs j 0)
+
+pub pair_is : (ps : List (List ℕ)) (cs : List ℕ) (i : ℕ) → ps ≡ first_chunks 2 (length cs / 2) cs → i < length cs / 2
+    → hex_byte (get_or (get_or ps i []) 0 0) (get_or (get_or ps i []) 1 0) ≡ hex_byte (get_or cs (2 * i) 0) (get_or cs (2 * i + 1) 0)
+pair_is ps cs i e h =
+    let z : 2 * i + 0 ≡ 2 * i = omega arith in
+    rw (e, pair_byte (length cs / 2) i 0 cs h (omega arith), pair_byte (length cs / 2) i 1 cs h (omega arith), z)
 
 two_more : (cs : List ℕ) (i : ℕ) → 2 * i + 1 < length cs → hex_bytes (drop (2 * i) cs) ≡ in_front (hex_byte (get_or cs (2 * i) 0) (get_or cs (2 * i + 1) 0)) (hex_bytes (drop (2 * (i + 1)) cs))
 unfolding hex_bytes

@@ -36,12 +36,13 @@ pub fn byte_of(high: u8, low: u8) -> Option<u8>
 pub fn bytes_of(heap: Global, digits: &[u8]) -> Result<Option<Vec<u8>>, AllocError>
     ensures { IfOk result (λ o. option_map vec_items o ≡ hex_bytes digits.now) }
 {
-    if digits.len() % 2 != 0 {
+    let (pairs, rest) = digits.as_chunks::<2>();
+    if !rest.is_empty() {
         return Ok(None);
     }
     let mut bytes = Vec::new(heap);
-    for i in 0..digits.len() / 2 {
-        let Some(byte) = byte_of(digits[2 * i], digits[2 * i + 1]) else {
+    for pair in pairs {
+        let Some(byte) = byte_of(pair[0], pair[1]) else {
             return Ok(None);
         };
         bytes.push(byte)?;

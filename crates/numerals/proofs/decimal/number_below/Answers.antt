@@ -9,22 +9,22 @@ returns-then-is_empty c = search (rules, number_empty)
 pub loop-digit-init : goal.loop-digit-init
 loop-digit-init c = search (rules, number_start)
 
-pub returns-then-not-is_digit : goal.returns-then-not-is_digit
-returns-then-not-is_digit c = search (rules, number_stop)
+pub returns-then-not-is_ascii_digit : goal.returns-then-not-is_ascii_digit
+returns-then-not-is_ascii_digit c = search (rules, number_stop)
 
-pub returns-in_default : goal.returns-in_default
-returns-in_default c =
+pub returns-in_err-number : goal.returns-in_err-number
+returns-in_err-number c =
     let cs = c.args.digits.now in
     let n = c.loop-digit.number in
     let i = c.loop-digit.digit-index in
-    let large : 2 ^ 64 ≤ n * 10 + (get_or cs i 0 - 48) = omega (arith, c.in_default.ensures) in
+    let large : 2 ^ 64 ≤ n * 10 + (get_or cs i 0 - 48) = omega (arith, c.in_err-number.ensures) in
     let digit : is_digit (get_or cs i 0) ≡ true = search rules in
     record {
-      value =
-          sym
+      value = c.from_residual.ensures
+          ∙ sym
           (ap (below c.args.limit) (c.loop-digit.invariant ∙ number_more n cs i (omega arith) digit)
           ∙ too_large c.args.limit (n * 10 + (get_or cs i 0 - 48)) (drop (i + 1) cs) (omega arith));
-      bound = tt;
+      bound = search rules;
     }
 
 pub loop-digit-preserved : goal.loop-digit-preserved
