@@ -11,16 +11,8 @@ fn hex_value(digit: u8) -> Option<u8>
     ensures value { result ≡ hex_value digit }
     ensures bound { IfSome result (λ v. v < 16) }
 {
-    if digit >= b'0' && digit <= b'9' {
-        return Some(digit - b'0');
-    }
-    if digit >= b'A' && digit <= b'F' {
-        return Some(digit - b'A' + 10);
-    }
-    if digit >= b'a' && digit <= b'f' {
-        return Some(digit - b'a' + 10);
-    }
-    None
+    let value = char::from(digit).to_digit(16)?;
+    Some(value as u8)
 }
 
 /// The byte that two hexadecimal digits write.
@@ -56,11 +48,7 @@ fn digit_of(value: u8) -> char
     ensures value { result ≡ hex_digit value }
     ensures ascii { result < 128 }
 {
-    if value < 10 {
-        (b'0' + value) as char
-    } else {
-        (b'a' + (value - 10)) as char
-    }
+    char::from_digit(u32::from(value), 16).unwrap()
 }
 
 /// Bytes in hexadecimal digits, two for each.
