@@ -12,7 +12,7 @@ use crate::name::Name;
 fn is_character(byte: u8) -> bool
     ensures { result ≡ is_character byte }
 {
-    byte >= 0x20 && byte <= 0x7e
+    (0x20..=0x7e).contains(&byte)
 }
 
 /// Whether a byte may stand after another: padding after anything, a character after a character.
