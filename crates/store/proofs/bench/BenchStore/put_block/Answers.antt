@@ -12,7 +12,7 @@ invariant_of-self c =
     let ys = c.args.bytes.now in
     record {
       whole = ap length c.overlay.ensures ∙ (overlaid_length xs at ys (omega (arith, s.whole)) ∙ s.whole);
-      filled = subst Bytes (sym c.overlay.ensures) (overlaid_bytes xs at ys (omega (arith, s.whole)) s.filled c.are_bytes.ensures);
+      filled = subst Bytes (sym c.overlay.ensures) (overlaid_bytes xs at ys (omega (arith, s.whole)) s.filled (λ k. (c.type_inv.bytes k).fits));
     }
 
 pub returns : goal.returns

@@ -18,7 +18,7 @@ invariant_of-self c =
     let ys = c.args.part.now in
     let e = patched_items s b c.args.at c.deref_mut.result.now ys c.overlay.new.slice c.requires.0 c.requires.1 c.deref_mut.ensures.value c.overlay.ensures in
     let f = block_fits b s.count s.size s.bytes.len c.requires.0 s.room in
-    let bytes = overlaid_bytes (vec_items s.bytes) (b * s.size + c.args.at) ys (omega (arith, s.bytes.ok.0)) s.filled c.are_bytes.ensures in
+    let bytes = overlaid_bytes (vec_items s.bytes) (b * s.size + c.args.at) ys (omega (arith, s.bytes.ok.0)) s.filled (λ k. (c.type_inv.part k).fits) in
     record { few = s.few; short = s.short; room = s.room; marked = s.marked; filled = subst Bytes (sym e) bytes }
 
 pub returns : goal.returns
