@@ -5,7 +5,7 @@ ghost use Rattle.store.specs.BenchMeaning.{bench, kept};
 ghost use Rattle.store.specs.Meaning.{written};
 ghost use Rattle.store.specs.Limits.{bench_limits};
 
-use crate::bench::{BenchStore, Blocks};
+use crate::bench::{BYTES, BenchStore, Blocks};
 use crate::bytes::{block_in, overlay};
 use crate::fault::Fault;
 use crate::store::Store;
@@ -13,8 +13,6 @@ use crate::store::Store;
 const COUNT: u32 = 64;
 
 const SIZE: u32 = 128;
-
-const BYTES: usize = 8192;
 
 impl BenchStore {
     /// All bytes zero.

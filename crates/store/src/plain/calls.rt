@@ -5,7 +5,7 @@ ghost use Rattle.store.specs.declared.fault.Cause.TheVariants.{BadBlock};
 ghost use Rattle.store.specs.Bytes.{gathered};
 ghost use Rattle.store.specs.Calls.{answered, unless};
 ghost use Rattle.store.specs.Faults.{fault};
-ghost use Rattle.store.specs.PlainMeaning.{plain, made, absent, outside, remarked, patched};
+ghost use Rattle.store.specs.PlainMeaning.{plain, made, absent, marked_by, outside, remarked, patched};
 ghost use Rattle.store.specs.Limits.{plain_limits};
 
 use crate::fault::{Cause, Fault};
@@ -52,14 +52,22 @@ impl PlainStore {
         Ok(())
     }
 
+    /// Sets a block's mark byte.
+    fn remark(&mut self, block: u32, byte: u8) -> Result<(), Fault>
+        ensures answer { result ≡ answered (absent (plain self.old) block) }
+        ensures after { plain self.new ≡ unless (absent (plain self.old) block) (remarked (plain self.old) block (marked_by byte block)) (plain self.old) }
+    {
+        self.check_block(block)?;
+        self.put_mark(block, byte);
+        Ok(())
+    }
+
     /// Marks a block as one that cannot be read.
     pub fn mark(&mut self, block: u32) -> Result<(), Fault>
         ensures answer { result ≡ answered (absent (plain self.old) block) }
         ensures after { plain self.new ≡ unless (absent (plain self.old) block) (remarked (plain self.old) block (Some (fault BadBlock block))) (plain self.old) }
     {
-        self.check_block(block)?;
-        self.put_mark(block, 1);
-        Ok(())
+        self.remark(block, 1)
     }
 
     /// Takes a block's mark away.
@@ -67,9 +75,7 @@ impl PlainStore {
         ensures answer { result ≡ answered (absent (plain self.old) block) }
         ensures after { plain self.new ≡ unless (absent (plain self.old) block) (remarked (plain self.old) block None) (plain self.old) }
     {
-        self.check_block(block)?;
-        self.put_mark(block, 0);
-        Ok(())
+        self.remark(block, 0)
     }
 
     /// Changes bytes of a block from `at` on, behind the back of its mark.
