@@ -9,7 +9,7 @@ ghost use Rattle.tree.specs.Nodes.Seen.{right};
 use crate::node::ENTRIES;
 use crate::rows::{NUMBER, key_at};
 use keys::key::Key;
-use store::bytes::{are_bytes, overlay};
+use store::bytes::overlay;
 
 /// Copies those of n entries that are from `lo` to `hi`, until one does not fit.
 fn gather_rows<K: Key>(
@@ -62,7 +62,6 @@ pub fn gather<K: Key>(
     ensures gathered { (n m low : ℕ) (d : Node K) → see_node K.Key.kind n m true low page.now ≡ right d → Gathered K.Key.kind lo.now hi.now d taken buffer.old result buffer.new }
     ensures within { result.0 * (K.Key.kind.width + 4) ≤ length buffer.new }
 {
-    are_bytes(page);
     let (_, rows) = page.split_at(ENTRIES);
     gather_rows(rows, page[1] as usize, lo, hi, buffer, taken)
 }

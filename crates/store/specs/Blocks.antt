@@ -1,6 +1,7 @@
 -- Blocks of n bytes that lie one after another in a list.
 use Rattle.std.specs.Prelude.{◌≡◌, ℕ, zero, suc, ◌+◌, ◌-◌, ◌*◌, ◌<◌, ◌≤◌, cond, ◌≢◌, List, ◌++◌, length, take, drop, replicate, ◌==◌, refl}
 use Rattle.std.proofs.Common.{sym, ap, ◌∙◌, ⊎_elim, arith, suc-mul, zero-mul, rules, lit<, length-take, length-drop, length-append}
+use Rattle.std.proofs.Math.Seq.{take-add}
 use Rattle.std.proofs.lemmas.List.{same_lists, places}
 use Rattle.std.proofs.lemmas.Bool.{cases_lt, cases_eq, eq-eqb, ne_eqb}
 use Rattle.std.proofs.lemmas.Nat.{mul-le}
@@ -53,8 +54,7 @@ unfolding gathered
 blocks_gathered zero n xs h = rw (zero-mul n)
 blocks_gathered (suc j) n xs h =
     let e : suc j * n ≡ j * n + n = suc-mul j n in
-    let f : take (j * n + n) xs ≡ take (j * n) xs ++ take n (drop (j * n) xs) = same_lists _ _ (search (rules, places)) (λ k d l. grind (arith, places)) in
-    rw e (f ∙ ap (λ (w : List ℕ). w ++ take n (drop (j * n) xs)) (blocks_gathered j n xs (omega arith)))
+    rw e (take-add (j * n) n xs ∙ ap (λ (w : List ℕ). w ++ take n (drop (j * n) xs)) (blocks_gathered j n xs (omega arith)))
 
 -- every block after block b was overlaid whole
 pub blocks_written : (c n b : ℕ) (xs ys zs : List ℕ) → b < c → c * n ≤ length xs → length ys ≡ n → zs ≡ overlaid xs (b * n) ys

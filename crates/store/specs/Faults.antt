@@ -4,7 +4,8 @@
 --   fault cause b     the fault of block b at depth 0
 --   deeper f          the fault f one layer up
 --   raised o          a mark one layer up
-use Rattle.std.specs.Prelude.{ℕ, ◌+◌, min, Some, None, Option}
+--   fault_shown f     the text of a fault
+use Rattle.std.specs.Prelude.{ℕ, ◌+◌, min, List, ◌++◌, Some, None, Option, codes, decimal}
 use Rattle.store.specs.declared.fault.Cause.{Cause}
 use Rattle.store.specs.declared.fault.Cause.TheVariants.{NoSuchBlock, WrongBuffer, BadBlock, WrongCheck}
 use Rattle.store.specs.declared.fault.Fault.{Fault}
@@ -25,3 +26,6 @@ deeper f = record { cause = f.cause; block = f.block; depth = min (f.depth + 1) 
 abbrev pub raised : Option Fault → Option Fault
 raised None = None
 raised (Some f) = Some (deeper f)
+
+abbrev pub fault_shown : Fault → List ℕ
+fault_shown f = codes "cause=" ++ (decimal (numbered f.cause) ++ (codes " block=" ++ (decimal f.block ++ (codes " depth=" ++ decimal f.depth))))

@@ -3,10 +3,13 @@
 ghost use Rattle.std.specs.Prelude.{◌≡◌, length};
 ghost use Rattle.store.specs.Bytes.{Bytes};
 
+/// The bytes of all blocks.
+const BYTES: usize = 8192;
+
 /// The bytes of 64 blocks of 128 bytes, one after another.
 #[derive(Drop)]
 pub struct Blocks {
-    bytes: [u8; 8192],
+    bytes: [u8; BYTES],
 }
 
 /// 64 blocks of 128 bytes, none of them ever marked.

@@ -1,16 +1,16 @@
 //! Bytes in a slice, for stores that keep their blocks in memory.
 
-ghost use Rattle.std.specs.Prelude.{◌≡◌, ◌+◌, ◌≤◌, length};
-ghost use Rattle.store.specs.Bytes.{Bytes, overlaid};
+ghost use Rattle.std.specs.Prelude.{◌≡◌, ◌+◌, ◌*◌, ◌≤◌, length, take, drop};
+ghost use Rattle.store.specs.Bytes.{overlaid};
 
-/// Does nothing: the contract is what it is called for, that a slice of bytes holds bytes.
-pub fn are_bytes(slice: &[u8])
-    ensures { Bytes slice.now }
+/// The bytes of a block, where blocks of `size` bytes lie one after another.
+pub(crate) fn block_in(bytes: &[u8], block: u32, size: u32) -> &[u8]
+    requires { block * size + size ≤ length bytes.now }
+    ensures value { result.now ≡ take size (drop (block * size) bytes.now) }
+    ensures whole { length result.now ≡ size }
 {
-    // a read of one element is what makes the type of all of them known to the proof
-    if slice.len() > 0 {
-        let _first = slice[0];
-    }
+    let from = block as usize * size as usize;
+    &bytes[from..from + size as usize]
 }
 
 /// Puts `part` in the place of what stands from `at` on.

@@ -1,7 +1,9 @@
 //! Why a store refuses a call.
 
-ghost use Rattle.std.specs.Prelude.{◌≡◌};
-ghost use Rattle.store.specs.Faults.{numbered, deeper};
+ghost use Rattle.std.specs.Prelude.{◌≡◌, Some};
+ghost use Rattle.store.specs.Faults.{numbered, fault, deeper, fault_shown};
+
+use std::fmt;
 
 /// The cause of a refusal.
 #[derive(Clone, Copy, PartialEq, Eq, Debug)]
@@ -34,14 +36,38 @@ impl Cause {
 }
 
 impl Fault {
+    /// A fault that was met in this very layer.
+    pub fn new(cause: Cause, block: u32) -> Fault
+        ensures { result ≡ fault cause block }
+    {
+        Fault {
+            cause,
+            block,
+            depth: 0,
+        }
+    }
+
     /// The same fault one layer up.
     pub fn raised(self) -> Fault
         ensures { result ≡ deeper self }
     {
         Fault {
-            cause: self.cause,
-            block: self.block,
             depth: self.depth.saturating_add(1),
+            ..self
         }
+    }
+}
+
+impl fmt::Display for Fault {
+    ghost output = { λ f. Some (fault_shown f) };
+
+    fn fmt<W: fmt::Write>(&self, f: &mut fmt::Formatter<W>) -> fmt::Result {
+        let Fault {
+            cause,
+            block,
+            depth,
+        } = *self;
+        let number = cause.number();
+        write!(f, "cause={number} block={block} depth={depth}")
     }
 }

@@ -2,9 +2,15 @@
 
 ghost use Rattle.std.specs.Prelude.{◌≡◌};
 ghost use Rattle.store.specs.Meaning.{Meaning, Limits};
-ghost use Rattle.store.specs.Calls.{misfit, answered, Read, Wrote};
+ghost use Rattle.store.specs.Calls.{misuse, answered, Read, Wrote};
 
 use crate::fault::{Cause, Fault};
+
+/// The most blocks of any store.
+pub const MOST_BLOCKS: usize = 1024;
+
+/// The bytes of the longest block of any store.
+pub const LONGEST: usize = 512;
 
 /// Numbered blocks of one length, each readable or marked with a fault, and a tally of the reads.
 pub trait Store {
@@ -30,26 +36,18 @@ pub trait Store {
     fn write(&mut self, block: u32, buffer: &[u8]) -> Result<(), Fault>
         ensures { Wrote (meaning self.old) block buffer.now result (meaning self.new) };
 
-    ghost limits: { (s : Self) → Limits (meaning s) };
-}
+    /// Refuses a block that is not there, and then a buffer that is not as long as a block.
+    fn check_fit(&self, block: u32, length: usize) -> Result<(), Fault>
+        ensures { result ≡ answered (misuse (meaning self.now) block length) }
+    {
+        if block >= self.count() {
+            return Err(Fault::new(Cause::NoSuchBlock, block));
+        }
+        if length != self.size() as usize {
+            return Err(Fault::new(Cause::WrongBuffer, block));
+        }
+        Ok(())
+    }
 
-/// Refuses a block that is not there, and then a buffer that is not as long as a block.
-pub fn check_fit(count: u32, size: u32, block: u32, length: usize) -> Result<(), Fault>
-    ensures { result ≡ answered (misfit count size block length) }
-{
-    if block >= count {
-        return Err(Fault {
-            cause: Cause::NoSuchBlock,
-            block,
-            depth: 0,
-        });
-    }
-    if length != size as usize {
-        return Err(Fault {
-            cause: Cause::WrongBuffer,
-            block,
-            depth: 0,
-        });
-    }
-    Ok(())
+    ghost limits: { (s : Self) → Limits (meaning s) };
 }

@@ -10,12 +10,10 @@ ghost use Rattle.layers.specs.Limits.{check_limits};
 
 use crate::check::Check;
 use store::fault::Fault;
-use store::store::{Store, check_fit};
+use store::store::{LONGEST, Store};
 
 /// The bytes of a check number.
 const NUMBER: u32 = 2;
-/// The longest block of any store.
-const LONGEST: usize = 512;
 
 impl<S: Store> Check<S> {
     /// The blocks of `below`, each less its check number.
@@ -61,17 +59,17 @@ impl<S: Store> Store for Check<S> {
         ensures below { S.Store.meaning self.new.below ≡ unless (misuse (checked S.Store.meaning self.old) block (length buffer.old)) (tallied (S.Store.meaning self.old.below)) (S.Store.meaning self.old.below) }
     {
         self.tally = self.tally.wrapping_add(1);
-        check_fit(self.count(), self.size(), block, buffer.len())?;
+        self.check_fit(block, buffer.len())?;
         let mut page = [0u8; LONGEST];
-        self.get_sealed(block, &mut page[0..buffer.len() + NUMBER as usize], buffer)
+        self.get_sealed(block, &mut page[..buffer.len() + NUMBER as usize], buffer)
     }
 
     fn write(&mut self, block: u32, buffer: &[u8]) -> Result<(), Fault>
         ensures call { Wrote (checked S.Store.meaning self.old) block buffer.now result (checked S.Store.meaning self.new) }
         ensures below { S.Store.meaning self.new.below ≡ unless (misuse (checked S.Store.meaning self.old) block (length buffer.now)) (written (S.Store.meaning self.old.below) block (sealed buffer.now block)) (S.Store.meaning self.old.below) }
     {
-        check_fit(self.count(), self.size(), block, buffer.len())?;
+        self.check_fit(block, buffer.len())?;
         let mut page = [0u8; LONGEST];
-        self.put_sealed(block, &mut page[0..buffer.len() + NUMBER as usize], buffer)
+        self.put_sealed(block, &mut page[..buffer.len() + NUMBER as usize], buffer)
     }
 }

@@ -13,11 +13,10 @@ use store::store::Store;
 pub(crate) fn number_of(bytes: &[u8], block: u32) -> u16
     ensures { result ≡ check_number bytes.now block }
 {
-    let mut total = (block % 65536) as u16;
-    for byte in bytes {
-        total = total.wrapping_add(*byte as u16);
-    }
-    total
+    let start = (block % 65536) as u16;
+    bytes
+        .iter()
+        .fold(start, |total, byte| total.wrapping_add(u16::from(*byte)))
 }
 
 /// Whether the last two bytes are the check number of the others.
@@ -25,8 +24,10 @@ pub(crate) fn verify(whole: &[u8], block: u32) -> bool
     requires { 2 ≤ length whole.now }
     ensures { result ≡ holds whole.now block }
 {
-    let size = whole.len() - 2;
-    number_of(&whole[0..size], block) == u16::from_be_bytes([whole[size], whole[size + 1]])
+    match whole.split_last_chunk() {
+        Some((bytes, number)) => number_of(bytes, block) == u16::from_be_bytes(*number),
+        None => false,
+    }
 }
 
 /// Puts the bytes and then their check number into `whole`.
@@ -34,11 +35,9 @@ pub(crate) fn seal(whole: &mut [u8], bytes: &[u8], block: u32)
     requires { length whole.old ≡ length bytes.now + 2 }
     ensures { whole.new ≡ sealed bytes.now block }
 {
-    let size = bytes.len();
-    let number = number_of(bytes, block).to_be_bytes();
-    whole[0..size].copy_from_slice(bytes);
-    whole[size] = number[0];
-    whole[size + 1] = number[1];
+    let (front, back) = whole.split_at_mut(bytes.len());
+    front.copy_from_slice(bytes);
+    back.copy_from_slice(&number_of(bytes, block).to_be_bytes());
 }
 
 impl<S: Store> Check<S> {
@@ -55,18 +54,11 @@ impl<S: Store> Check<S> {
         ensures below { S.Store.meaning self.new.below ≡ tallied (S.Store.meaning self.old.below) }
         ensures tally { self.new.tally ≡ self.old.tally }
     {
-        if let Err(fault) = self.below.read(block, whole) {
-            return Err(fault.raised());
-        }
+        self.below.read(block, whole).map_err(Fault::raised)?;
         if !verify(whole, block) {
-            return Err(Fault {
-                cause: Cause::WrongCheck,
-                block,
-                depth: 0,
-            });
+            return Err(Fault::new(Cause::WrongCheck, block));
         }
-        let size = bytes.len();
-        bytes.copy_from_slice(&whole[0..size]);
+        bytes.copy_from_slice(&whole[..bytes.len()]);
         Ok(())
     }
 

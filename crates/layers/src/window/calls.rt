@@ -10,7 +10,7 @@ ghost use Rattle.layers.specs.Limits.{window_limits};
 
 use crate::window::Window;
 use store::fault::Fault;
-use store::store::{Store, check_fit};
+use store::store::Store;
 
 impl<S: Store> Window<S> {
     /// The blocks of `below` from `start` on, at most `most` of them.
@@ -57,21 +57,19 @@ impl<S: Store> Store for Window<S> {
         ensures below { S.Store.meaning self.new.below ≡ unless (misuse (windowed S.Store.meaning self.old) block (length buffer.old)) (tallied (S.Store.meaning self.old.below)) (S.Store.meaning self.old.below) }
     {
         self.tally = self.tally.wrapping_add(1);
-        check_fit(self.count(), self.size(), block, buffer.len())?;
-        match self.below.read(self.start + block, buffer) {
-            Ok(()) => Ok(()),
-            Err(fault) => Err(fault.raised()),
-        }
+        self.check_fit(block, buffer.len())?;
+        self.below
+            .read(self.start + block, buffer)
+            .map_err(Fault::raised)
     }
 
     fn write(&mut self, block: u32, buffer: &[u8]) -> Result<(), Fault>
         ensures call { Wrote (windowed S.Store.meaning self.old) block buffer.now result (windowed S.Store.meaning self.new) }
         ensures below { S.Store.meaning self.new.below ≡ unless (misuse (windowed S.Store.meaning self.old) block (length buffer.now)) (written (S.Store.meaning self.old.below) (self.old.start + block) buffer.now) (S.Store.meaning self.old.below) }
     {
-        check_fit(self.count(), self.size(), block, buffer.len())?;
-        match self.below.write(self.start + block, buffer) {
-            Ok(()) => Ok(()),
-            Err(fault) => Err(fault.raised()),
-        }
+        self.check_fit(block, buffer.len())?;
+        self.below
+            .write(self.start + block, buffer)
+            .map_err(Fault::raised)
     }
 }

@@ -5,16 +5,14 @@ ghost use Rattle.store.specs.BenchMeaning.{bench, kept};
 ghost use Rattle.store.specs.Meaning.{written};
 ghost use Rattle.store.specs.Limits.{bench_limits};
 
-use crate::bench::{BenchStore, Blocks};
-use crate::bytes::{are_bytes, overlay};
+use crate::bench::{BYTES, BenchStore, Blocks};
+use crate::bytes::{block_in, overlay};
 use crate::fault::Fault;
-use crate::store::{Store, check_fit};
+use crate::store::Store;
 
 const COUNT: u32 = 64;
 
 const SIZE: u32 = 128;
-
-const BYTES: usize = 8192;
 
 impl BenchStore {
     /// All bytes zero.
@@ -32,9 +30,7 @@ impl BenchStore {
         requires { (block < 64) × (length buffer.old ≡ 128) }
         ensures { buffer.new ≡ (bench self.now).contents block }
     {
-        let size = SIZE as usize;
-        let from = block as usize * size;
-        buffer.copy_from_slice(&self.blocks.bytes[from..from + size]);
+        buffer.copy_from_slice(block_in(&self.blocks.bytes, block, SIZE));
     }
 
     /// Puts all bytes of a block.
@@ -42,7 +38,6 @@ impl BenchStore {
         requires { (block < 64) × (length bytes.now ≡ 128) }
         ensures { bench self.new ≡ written (bench self.old) block bytes.now }
     {
-        are_bytes(bytes);
         overlay(
             &mut self.blocks.bytes,
             block as usize * SIZE as usize,
@@ -70,13 +65,13 @@ impl Store for BenchStore {
 
     fn read(&mut self, block: u32, buffer: &mut [u8]) -> Result<(), Fault> {
         self.tally = self.tally.wrapping_add(1);
-        check_fit(COUNT, SIZE, block, buffer.len())?;
+        self.check_fit(block, buffer.len())?;
         self.get_block(block, buffer);
         Ok(())
     }
 
     fn write(&mut self, block: u32, buffer: &[u8]) -> Result<(), Fault> {
-        check_fit(COUNT, SIZE, block, buffer.len())?;
+        self.check_fit(block, buffer.len())?;
         self.put_block(block, buffer);
         Ok(())
     }

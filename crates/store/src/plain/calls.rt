@@ -1,43 +1,38 @@
 //! A store over bytes in memory: its calls.
 
-ghost use Rattle.std.specs.Prelude.{◌≡◌, length, Some, None};
+ghost use Rattle.std.specs.Prelude.{◌≡◌, ◌&&◌, cond, length, nat_le, Some, None};
 ghost use Rattle.store.specs.declared.fault.Cause.TheVariants.{BadBlock};
 ghost use Rattle.store.specs.Bytes.{gathered};
 ghost use Rattle.store.specs.Calls.{answered, unless};
 ghost use Rattle.store.specs.Faults.{fault};
-ghost use Rattle.store.specs.PlainMeaning.{plain, made, absent, outside, remarked, patched};
+ghost use Rattle.store.specs.PlainMeaning.{plain, made, absent, marked_by, outside, remarked, patched};
 ghost use Rattle.store.specs.Limits.{plain_limits};
 
-use crate::bytes::are_bytes;
 use crate::fault::{Cause, Fault};
 use crate::plain::PlainStore;
-use crate::store::{Store, check_fit};
+use crate::store::{LONGEST, MOST_BLOCKS, Store};
 
-/// The most blocks of a store.
-const MOST_BLOCKS: usize = 1024;
-/// The shortest and the longest block of a plain store.
+/// The bytes of the shortest block of a plain store.
 const SHORTEST: u32 = 16;
 
-const LONGEST: u32 = 512;
+/// The length itself, and 0 where no block of a plain store has that length.
+fn allowed(size: u32) -> u32
+    ensures { result ≡ cond (nat_le 16 size && nat_le size 512) size 0 }
+{
+    if size < SHORTEST || size as usize > LONGEST {
+        return 0;
+    }
+    size
+}
 
 impl PlainStore {
     /// Cuts `bytes` into blocks of `size` bytes, as many as there are mark bytes for; a mark byte that is not 0 marks its block.
     pub fn new(bytes: Vec<u8>, marks: Vec<u8>, size: u32) -> PlainStore
         ensures { plain result ≡ made bytes.items marks.items size }
     {
-        are_bytes(&bytes);
-        if size < SHORTEST || size > LONGEST {
-            return PlainStore {
-                bytes,
-                marks,
-                count: 0,
-                size: 0,
-                tally: 0,
-            };
-        }
-        let count = (bytes.len() / size as usize)
-            .min(marks.len())
-            .min(MOST_BLOCKS) as u32;
+        let size = allowed(size);
+        let fit = bytes.len().checked_div(size as usize).unwrap_or(0);
+        let count = fit.min(marks.len()).min(MOST_BLOCKS) as u32;
         PlainStore {
             bytes,
             marks,
@@ -52,12 +47,18 @@ impl PlainStore {
         ensures { result ≡ answered (absent (plain self.now) block) }
     {
         if block >= self.count {
-            return Err(Fault {
-                cause: Cause::NoSuchBlock,
-                block,
-                depth: 0,
-            });
+            return Err(Fault::new(Cause::NoSuchBlock, block));
         }
+        Ok(())
+    }
+
+    /// Sets a block's mark byte.
+    fn remark(&mut self, block: u32, byte: u8) -> Result<(), Fault>
+        ensures answer { result ≡ answered (absent (plain self.old) block) }
+        ensures after { plain self.new ≡ unless (absent (plain self.old) block) (remarked (plain self.old) block (marked_by byte block)) (plain self.old) }
+    {
+        self.check_block(block)?;
+        self.put_mark(block, byte);
         Ok(())
     }
 
@@ -66,9 +67,7 @@ impl PlainStore {
         ensures answer { result ≡ answered (absent (plain self.old) block) }
         ensures after { plain self.new ≡ unless (absent (plain self.old) block) (remarked (plain self.old) block (Some (fault BadBlock block))) (plain self.old) }
     {
-        self.check_block(block)?;
-        self.put_mark(block, 1);
-        Ok(())
+        self.remark(block, 1)
     }
 
     /// Takes a block's mark away.
@@ -76,9 +75,7 @@ impl PlainStore {
         ensures answer { result ≡ answered (absent (plain self.old) block) }
         ensures after { plain self.new ≡ unless (absent (plain self.old) block) (remarked (plain self.old) block None) (plain self.old) }
     {
-        self.check_block(block)?;
-        self.put_mark(block, 0);
-        Ok(())
+        self.remark(block, 0)
     }
 
     /// Changes bytes of a block from `at` on, behind the back of its mark.
@@ -89,11 +86,7 @@ impl PlainStore {
         self.check_block(block)?;
         let size = self.size as usize;
         if at > size || part.len() > size - at {
-            return Err(Fault {
-                cause: Cause::WrongBuffer,
-                block,
-                depth: 0,
-            });
+            return Err(Fault::new(Cause::WrongBuffer, block));
         }
         self.put_part(block, at, part);
         Ok(())
@@ -126,20 +119,16 @@ impl Store for PlainStore {
 
     fn read(&mut self, block: u32, buffer: &mut [u8]) -> Result<(), Fault> {
         self.tally = self.tally.wrapping_add(1);
-        check_fit(self.count, self.size, block, buffer.len())?;
+        self.check_fit(block, buffer.len())?;
         if self.marks[block as usize] != 0 {
-            return Err(Fault {
-                cause: Cause::BadBlock,
-                block,
-                depth: 0,
-            });
+            return Err(Fault::new(Cause::BadBlock, block));
         }
         self.get_block(block, buffer);
         Ok(())
     }
 
     fn write(&mut self, block: u32, buffer: &[u8]) -> Result<(), Fault> {
-        check_fit(self.count, self.size, block, buffer.len())?;
+        self.check_fit(block, buffer.len())?;
         self.put_block(block, buffer, 0);
         Ok(())
     }

@@ -4,7 +4,7 @@ ghost use Rattle.std.specs.Prelude.{◌≡◌, ◌+◌, ◌<◌, ◌≤◌, leng
 ghost use Rattle.store.specs.Bytes.{gathered};
 ghost use Rattle.store.specs.PlainMeaning.{plain, marked_by, remarked, patched, refilled};
 
-use crate::bytes::{are_bytes, overlay};
+use crate::bytes::{block_in, overlay};
 use crate::plain::PlainStore;
 
 impl PlainStore {
@@ -13,9 +13,7 @@ impl PlainStore {
         requires { (block < self.now.count) × (length buffer.old ≡ self.now.size) }
         ensures { buffer.new ≡ (plain self.now).contents block }
     {
-        let size = self.size as usize;
-        let from = block as usize * size;
-        buffer.copy_from_slice(&self.bytes[from..from + size]);
+        buffer.copy_from_slice(block_in(&self.bytes, block, self.size));
     }
 
     /// Puts bytes into a block, from `at` on.
@@ -23,7 +21,6 @@ impl PlainStore {
         requires { (block < self.old.count) × (at + length part.now ≤ self.old.size) }
         ensures { plain self.new ≡ patched (plain self.old) block at part.now }
     {
-        are_bytes(part);
         overlay(
             &mut self.bytes,
             block as usize * self.size as usize + at,
@@ -53,6 +50,6 @@ impl PlainStore {
         requires { count ≤ self.now.count }
         ensures { result.now ≡ gathered count (plain self.now).contents }
     {
-        &self.bytes[0..count as usize * self.size as usize]
+        &self.bytes[..count as usize * self.size as usize]
     }
 }

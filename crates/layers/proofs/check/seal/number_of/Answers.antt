@@ -1,10 +1,11 @@
-use Rattle.std.proofs.Common.{arith}
-use Rattle.std.proofs.lemmas.List.Sums.{sum_by_more}
-use Rattle.std.proofs.lemmas.List.{take_all}
+use Rattle.std.proofs.Common.{◌≡◌, subst, arith, rules}
+use Rattle.std.proofs.lemmas.Fn.{fold_over, slice_gives, fronts}
+use Rattle.std.proofs.lemmas.List.Sums.{sum_by_push}
+use Rattle.layers.specs.Checks.{check_number}
 use Rattle.layers.proofs.check.seal.number_of.Goals as goal
 
-pub loop-byte-preserved : goal.loop-byte-preserved
-loop-byte-preserved c = let s = sum_by_more (λ x. x) c.args.bytes.now c.loop-byte.byte-index 0 (omega arith) in omega arith
-
+-- after each byte the total is the check number of the bytes so far
 pub returns : goal.returns
-returns c = let e = take_all c.loop-byte.byte-index c.args.bytes.now (omega arith) in let i = c.loop-byte.invariant in rw e at i
+returns c = subst (λ xs. c.fold.result ≡ check_number xs c.args.block) c.iter.ensures.rest
+    (fold_over fronts (λ y. y.now) _ (λ xs n. n ≡ check_number xs c.args.block) _ (λ xs a x b f k d. let more = sum_by_push (λ y. y) xs x.now in search rules)
+    _ _ _ _ (slice_gives c.iter.result) (omega arith) c.fold.ensures.ran)

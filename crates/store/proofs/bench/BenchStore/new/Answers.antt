@@ -1,6 +1,5 @@
-use Rattle.std.proofs.Common.{refl}
 use Rattle.store.specs.Blocks.{zero_bytes}
 use Rattle.store.proofs.bench.BenchStore.new.Goals as goal
 
-pub invariant_of-result : goal.invariant_of-result
-invariant_of-result c = record { whole = refl; filled = zero_bytes 8192 }
+pub invariant_of-result-clause-filled : goal.invariant_of-result-clause-filled
+invariant_of-result-clause-filled c = zero_bytes 8192
