@@ -2,6 +2,7 @@
 use Rattle.std.proofs.Common.{ℕ, zero, suc, ◌-◌, Bool, true, false, cond, eqb, List, [], ◌++◌, Some, None, Option, arith}
 use Rattle.keys.specs.Kind.{Kind}
 use Rattle.store.specs.Meaning.{Meaning}
+use Rattle.tree.specs.declared.rule.Rule.TheVariants.{Chain}
 use Rattle.tree.specs.declared.refusal.Refusal.TheVariants.{Broken, Crossed, Unfit}
 use Rattle.tree.specs.Laws.{Exactly, Unreadably, answer}
 use Rattle.tree.specs.Nodes.{least, see_node}
@@ -27,7 +28,7 @@ module _ {K : Type 0} (κ : Kind K) (c : ℕ → List ℕ) (n : ℕ) (lo hi : K)
 
   chase_own : (m fuel cap : ℕ) (out : List (K × ℕ)) (b : ℕ) → Unreadably (answer c (chase κ n m lo hi fuel cap out b)) → ⊥
   unfolding answer
-  chase_own m zero cap out b u = other out (Broken 8 b) (λ e. omega arith) u
+  chase_own m zero cap out b u = other out (Broken Chain b) (λ e. omega arith) u
   chase_own m (suc fuel) cap out b u =
       seen_own c out b _ (λ d. after_own out (scan κ lo hi cap d.entries) d.link (chase κ n m lo hi fuel) (chase_own m fuel) (scan κ lo hi cap d.entries).end)
       (see_node κ n m true (least m false true) (c b)) u

@@ -4,6 +4,7 @@ use Rattle.std.proofs.lemmas.Bool.{cond_both}
 use Rattle.std.specs.List.{AllByRecursion}
 use Rattle.keys.specs.Kind.{Kind}
 use Rattle.tree.specs.declared.head.Head.{Head}
+use Rattle.tree.specs.declared.rule.Rule.TheVariants.{HeadNumbers}
 use Rattle.tree.specs.declared.refusal.Refusal.{Refusal}
 use Rattle.tree.specs.declared.refusal.Refusal.TheVariants.{Broken, NoLetters, OtherKind, OtherVersion, Unfit}
 use Rattle.tree.specs.Entries.{part}
@@ -100,19 +101,19 @@ module _ {P A : Type 0} (c : ℕ → List ℕ) where
       bs : List ℕ
       bs = c 0
 
-      by_rule : (b : Bool) → Unreadably (answer c (on_head p go (cond b (Ok (head_of bs)) (Err (Broken 1 0))))) → ⊥
+      by_rule : (b : Bool) → Unreadably (answer c (on_head p go (cond b (Ok (head_of bs)) (Err (Broken HeadNumbers 0))))) → ⊥
       by_rule true u = o (head_of bs) u
-      by_rule false u = other {A = A} p (Broken 1 0) (λ e. omega arith) u
+      by_rule false u = other {A = A} p (Broken HeadNumbers 0) (λ e. omega arith) u
 
-      by_code : (b : Bool) → Unreadably (answer c (on_head p go (cond b (cond (rule_1 κ n size (head_of bs)) (Ok (head_of bs)) (Err (Broken 1 0))) (Err OtherKind)))) → ⊥
+      by_code : (b : Bool) → Unreadably (answer c (on_head p go (cond b (cond (rule_1 κ n size (head_of bs)) (Ok (head_of bs)) (Err (Broken HeadNumbers 0))) (Err OtherKind)))) → ⊥
       by_code true u = by_rule (rule_1 κ n size (head_of bs)) u
       by_code false u = other {A = A} p OtherKind (λ e. omega arith) u
 
-      by_version : (b : Bool) → Unreadably (answer c (on_head p go (cond b (cond (eqb (u8_at 5 bs) κ.code) (cond (rule_1 κ n size (head_of bs)) (Ok (head_of bs)) (Err (Broken 1 0))) (Err OtherKind)) (Err OtherVersion)))) → ⊥
+      by_version : (b : Bool) → Unreadably (answer c (on_head p go (cond b (cond (eqb (u8_at 5 bs) κ.code) (cond (rule_1 κ n size (head_of bs)) (Ok (head_of bs)) (Err (Broken HeadNumbers 0))) (Err OtherKind)) (Err OtherVersion)))) → ⊥
       by_version true u = by_code (eqb (u8_at 5 bs) κ.code) u
       by_version false u = other {A = A} p OtherVersion (λ e. omega arith) u
 
-      by_letters : (b : Bool) → Unreadably (answer c (on_head p go (cond b (cond (has_version bs) (cond (eqb (u8_at 5 bs) κ.code) (cond (rule_1 κ n size (head_of bs)) (Ok (head_of bs)) (Err (Broken 1 0))) (Err OtherKind)) (Err OtherVersion)) (Err NoLetters)))) → ⊥
+      by_letters : (b : Bool) → Unreadably (answer c (on_head p go (cond b (cond (has_version bs) (cond (eqb (u8_at 5 bs) κ.code) (cond (rule_1 κ n size (head_of bs)) (Ok (head_of bs)) (Err (Broken HeadNumbers 0))) (Err OtherKind)) (Err OtherVersion)) (Err NoLetters)))) → ⊥
       by_letters true u = by_version (has_version bs) u
       by_letters false u = other {A = A} p NoLetters (λ e. omega arith) u
 

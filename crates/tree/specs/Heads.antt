@@ -10,6 +10,7 @@ use Rattle.std.specs.Prelude.{ℕ, ◌+◌, ◌-◌, ◌/◌, Bool, cond, ◌&&�
 use Rattle.keys.specs.Bytes.{big_endian}
 use Rattle.keys.specs.Kind.{Kind}
 use Rattle.tree.specs.declared.head.Head.{Head}
+use Rattle.tree.specs.declared.rule.Rule.TheVariants.{HeadNumbers}
 use Rattle.tree.specs.declared.refusal.Refusal.{Refusal}
 use Rattle.tree.specs.declared.refusal.Refusal.TheVariants.{NoLetters, OtherVersion, OtherKind, Broken}
 use Rattle.tree.specs.Fields.{padded, u16_at, u32_at, u8_at, within}
@@ -45,7 +46,7 @@ module _ {K : Type 0} (κ : Kind K) where
   see_head n size bs =
       cond (has_letters bs)
       (cond (has_version bs)
-      (cond (u8_at 5 bs == κ.code) (cond (rule_1 n size (head_of bs)) (Ok (head_of bs)) (Err (Broken 1 0))) (Err OtherKind))
+      (cond (u8_at 5 bs == κ.code) (cond (rule_1 n size (head_of bs)) (Ok (head_of bs)) (Err (Broken HeadNumbers 0))) (Err OtherKind))
       (Err OtherVersion))
       (Err NoLetters)
 

@@ -19,6 +19,7 @@ use Rattle.std.specs.Prelude.{ℕ, zero, suc, ◌+◌, ◌-◌, ◌/◌, Bool, t
 use Rattle.keys.specs.Kind.{Kind}
 use Rattle.store.specs.Meaning.{Meaning, written}
 use Rattle.tree.specs.declared.head.Head.{Head}
+use Rattle.tree.specs.declared.rule.Rule.TheVariants.{FreeList, MetOnce}
 use Rattle.tree.specs.declared.refusal.Refusal.{Refusal}
 use Rattle.tree.specs.declared.refusal.Refusal.TheVariants.{Broken, KeyThere, NoRoom}
 use Rattle.tree.specs.Entries.{lookup}
@@ -54,7 +55,7 @@ repeated (w ∷ ws) = or_repeated (repeated ws) (stands w.0 ws) w.0
 
 abbrev pub unless_repeated : {P A : Type 0} → P → Plan P A → Option ℕ → Plan P A
 unless_repeated p go None = go
-unless_repeated p go (Some b) = refuse p (Broken 7 b)
+unless_repeated p go (Some b) = refuse p (Broken MetOnce b)
 
 abbrev pub once_each : {P A : Type 0} → P → Writes → Plan P A → Plan P A
 once_each p ws go = unless_repeated p go (repeated ws)
@@ -96,7 +97,7 @@ module _ {K : Type 0} (κ : Kind K) (n size : ℕ) where
   -- k blocks of the free chain from b on, and what follows them
   abbrev pub with_frees : {P A : Type 0} → P → ℕ → ℕ → (List ℕ → ℕ → Plan P A) → Plan P A
   with_frees p zero b go = go [] b
-  with_frees p (suc k) b go = when p (Broken 9 0) (look p b (λ bs. on_seen p b (λ l. with_frees p k l (λ xs rest. go (b ∷ xs) rest)) (see_free n bs))) (nat_le 1 b)
+  with_frees p (suc k) b go = when p (Broken FreeList 0) (look p b (λ bs. on_seen p b (λ l. with_frees p k l (λ xs rest. go (b ∷ xs) rest)) (see_free n bs))) (nat_le 1 b)
 
   abbrev pub split_leaf : ℕ → ℕ → ℕ → List (K × ℕ) → List (K × ℕ) → List ℕ → Grown K
   split_leaf b link new low [] spare = record { writes = (b, write_node κ size true (record { link = link; entries = low })) ∷ []; up = None; spare = spare }

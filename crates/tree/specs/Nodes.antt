@@ -1,7 +1,7 @@
 -- What the blocks after the head say: nodes and free blocks.
 --
---   Seen A                       a block seen as something: right, with what it holds, or wrong, with the number
---                                of the first rule that it breaks
+--   Seen A                       a block seen as something: right, with what it holds, or wrong, by the first rule
+--                                that it breaks
 --   Node K                       a link and entries: of a leaf the next leaf and the records, of an inner node
 --                                the first child and the children for keys from each key on
 --   least_leaf m, least_kids m   the least entries of a leaf and the least children of an inner node, where m is the order
@@ -13,19 +13,21 @@
 use Rattle.std.specs.Prelude.{ℕ, ◌+◌, ◌-◌, ◌/◌, Bool, true, false, ◌&&◌, List, [], ◌∷◌, ◌++◌, length, drop, Some, None, Option, ◌==◌, nat_le, nat_lt}
 use Rattle.keys.specs.Bytes.{big_endian}
 use Rattle.keys.specs.Kind.{Kind}
+use Rattle.tree.specs.declared.rule.Rule.{Rule}
+use Rattle.tree.specs.declared.rule.Rule.TheVariants.{Tag, Count, Keys, Links}
 use Rattle.tree.specs.Entries.{rises, see_entries, write_entries}
 use Rattle.tree.specs.Fields.{padded, u32_at, u8_at}
 
 pub data Seen (A : Type 0) : Type 0 where
-  wrong : ℕ → Seen A
+  wrong : Rule → Seen A
   right : A → Seen A
 
 -- wrong by rule r where a test fails
-abbrev pub check : {A : Type 0} → ℕ → Bool → Seen A → Seen A
+abbrev pub check : {A : Type 0} → Rule → Bool → Seen A → Seen A
 check r true s = s
 check r false s = wrong r
 
-abbrev pub or_wrong : {A B : Type 0} → ℕ → (A → Seen B) → Option A → Seen B
+abbrev pub or_wrong : {A B : Type 0} → Rule → (A → Seen B) → Option A → Seen B
 or_wrong r f None = wrong r
 or_wrong r f (Some a) = f a
 
@@ -71,16 +73,16 @@ module _ {K : Type 0} (κ : Kind K) where
 
   unfoldable pub see_node : ℕ → ℕ → Bool → ℕ → List ℕ → Seen (Node K)
   see_node n m is_leaf low bs =
-      check 2 (u8_at 0 bs == tag_of is_leaf)
-      (check 3 (nat_le low (u8_at 1 bs) && nat_le (u8_at 1 bs) m)
-      (or_wrong 4 (λ es. check 4 (rises κ es) (check 5 (numbers_fit n is_leaf (node_with bs es)) (right (node_with bs es))))
+      check Tag (u8_at 0 bs == tag_of is_leaf)
+      (check Count (nat_le low (u8_at 1 bs) && nat_le (u8_at 1 bs) m)
+      (or_wrong Keys (λ es. check Keys (rises κ es) (check Links (numbers_fit n is_leaf (node_with bs es)) (right (node_with bs es))))
       (see_entries κ (u8_at 1 bs) (drop 8 bs))))
 
   abbrev pub write_node : ℕ → Bool → Node K → List ℕ
   write_node size is_leaf d = padded size (tag_of is_leaf ∷ length d.entries ∷ 0 ∷ 0 ∷ (big_endian 4 d.link ++ write_entries κ d.entries))
 
 abbrev pub see_free : ℕ → List ℕ → Seen ℕ
-see_free n bs = check 2 (u8_at 0 bs == free_tag) (check 3 (u8_at 1 bs == 0) (check 5 (nat_lt (u32_at 4 bs) n) (right (u32_at 4 bs))))
+see_free n bs = check Tag (u8_at 0 bs == free_tag) (check Count (u8_at 1 bs == 0) (check Links (nat_lt (u32_at 4 bs) n) (right (u32_at 4 bs))))
 
 abbrev pub write_free : ℕ → ℕ → List ℕ
 write_free size link = padded size (free_tag ∷ 0 ∷ 0 ∷ 0 ∷ big_endian 4 link)

@@ -12,6 +12,7 @@
 use Rattle.std.specs.Prelude.{ℕ, zero, suc, ◌-◌, Bool, true, false, cond, List, [], ◌∷◌, ◌++◌, length, Some, None, Ok, Err, Option, Result, ◌==◌}
 use Rattle.keys.specs.Kind.{Kind}
 use Rattle.tree.specs.declared.head.Head.{Head}
+use Rattle.tree.specs.declared.rule.Rule.TheVariants.{Chain}
 use Rattle.tree.specs.declared.refusal.RangeRefused.{RangeRefused}
 use Rattle.tree.specs.declared.refusal.Refusal.TheVariants.{Broken, Crossed}
 use Rattle.tree.specs.Nodes.{Node, least}
@@ -48,7 +49,7 @@ module _ {K : Type 0} (κ : Kind K) where
 
   -- a leaf more than the store has room for shows that the links go round
   abbrev pub chase : ℕ → ℕ → K → K → ℕ → ℕ → List (K × ℕ) → ℕ → Ranged
-  chase n m lo hi zero cap out b = refuse out (Broken 8 b)
+  chase n m lo hi zero cap out b = refuse out (Broken Chain b)
   chase n m lo hi (suc fuel) cap out b = with_node κ n out m true (least m false true) b (λ d. follow lo hi cap out d (chase n m lo hi fuel))
 
   abbrev pub range_below : ℕ → K → K → ℕ → Head → Ranged

@@ -1,7 +1,7 @@
 //! The head of an index file.
 
 /// What block 0 holds besides the letters, the version and the key kind's code.
-#[derive(Clone, Copy)]
+#[derive(Clone, Copy, PartialEq, Eq, Debug)]
 pub struct Head {
     /// The most entries of a node.
     pub order: u8,

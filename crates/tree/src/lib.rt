@@ -4,3 +4,4 @@
 pub mod cases;
 pub mod head;
 pub mod refusal;
+pub mod rule;

@@ -1,13 +1,15 @@
 //! Why the index refuses a call.
 
-ghost use Rattle.std.specs.Prelude.{◌≡◌};
+ghost use Rattle.std.specs.Prelude.{◌≡◌, Some};
 ghost use Rattle.tree.specs.declared.refusal.Refusal.TheVariants.{Unreadable};
-ghost use Rattle.tree.specs.Refusals.{numbered};
+ghost use Rattle.tree.specs.Refusals.{numbered, refusal_shown};
 
+use crate::rule::Rule;
+use std::fmt;
 use store::fault::Fault;
 
 /// Why the index refuses a call.
-#[derive(Clone, Copy)]
+#[derive(Clone, Copy, PartialEq, Eq, Debug)]
 pub enum Refusal {
     /// The store has fewer than two blocks, or blocks of fewer than 64 bytes; to format, also an order that does not fit.
     Unfit,
@@ -23,8 +25,8 @@ pub enum Refusal {
     OtherVersion,
     /// The head has another key kind's code.
     OtherKind,
-    /// A rule of this number is broken at this block.
-    Broken(u8, u32),
+    /// A rule is broken at this block.
+    Broken(Rule, u32),
     /// The key to insert is there.
     KeyThere,
     /// The key to remove is absent.
@@ -62,15 +64,28 @@ impl From<Fault> for Refusal {
     }
 }
 
+impl fmt::Display for Refusal {
+    ghost output = { λ r. Some (refusal_shown r) };
+
+    fn fmt<W: fmt::Write>(&self, f: &mut fmt::Formatter<W>) -> fmt::Result {
+        let number = self.number();
+        match self {
+            Refusal::Unreadable(fault) => write!(f, "{number} {fault}"),
+            Refusal::Broken(rule, block) => write!(f, "{number} rule={rule} block={block}"),
+            _ => write!(f, "{number}"),
+        }
+    }
+}
+
 /// A refusal, and the reads that were made before it.
-#[derive(Clone, Copy)]
+#[derive(Clone, Copy, PartialEq, Eq, Debug)]
 pub struct Refused {
     pub refusal: Refusal,
     pub reads: u64,
 }
 
 /// A refusal of a range, with the entries that stand in the buffer and the reads that were made before it.
-#[derive(Clone, Copy)]
+#[derive(Clone, Copy, PartialEq, Eq, Debug)]
 pub struct RangeRefused {
     pub refusal: Refusal,
     pub entries: usize,
