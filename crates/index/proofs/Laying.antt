@@ -1,8 +1,11 @@
 -- Blocks written one after another.
-use Rattle.std.proofs.Common.{◌≡◌, ℕ, ◌+◌, Bool, true, false, cond, eqb, ltb, List, None, Ok, Err, Result, sym, refl, ap, ◌∙◌, arith}
+use Rattle.std.proofs.Common.{◌≡◌, ℕ, ◌+◌, ◌<◌, Bool, true, false, cond, eqb, ltb, List, length, None, Ok, Err, Result, sym, refl, ap, ◌∙◌, arith}
 use Rattle.std.proofs.lemmas.Bool.Decides.{nat_tests}
+use Rattle.std.proofs.lemmas.Bool.{lt-ltb}
 use Rattle.keys.specs.Kind.{Kind}
 use Rattle.store.proofs.Meanings.{same_meaning}
+use Rattle.store.specs.Calls.{Wrote, misuse, unless}
+use Rattle.store.specs.declared.fault.Fault.{Fault}
 use Rattle.store.specs.Meaning.{Meaning, written}
 use Rattle.tree.specs.declared.refusal.Refusal.{Refusal}
 use Rattle.tree.specs.declared.refusal.Refusal.TheVariants.{Unfit}
@@ -22,6 +25,18 @@ laid_more i m f = same_meaning _ _ refl refl (λ k. contents k) (λ k. marks k) 
 
     marks : (k : ℕ) → cond (eqb k i) None (cond (ltb k i) None (m.mark k)) ≡ cond (ltb k (i + 1)) None (m.mark k)
     marks k = grind (arith, nat_tests)
+
+-- one block more, by a write of it; n and l are the store's count and size
+pub laid_next : (i n l : ℕ) (m now next : Meaning) (f : ℕ → ℕ → ℕ → List ℕ) (xs : List ℕ) (r : Result Unit Fault) → now ≡ laid i m (f m.count m.size) → n ≡ m.count → l ≡ m.size → i < n
+    → xs ≡ f n l i → length xs ≡ m.size → Wrote now i xs r next → next ≡ laid (i + 1) m (f m.count m.size)
+laid_next i n l m now next f xs r e en el h ex es w =
+    let g = f m.count m.size in
+    let a : ltb i m.count ≡ true = lt-ltb i m.count (omega arith) in
+    let b : eqb (length xs) m.size ≡ true = grind (arith, nat_tests) in
+    let c : next ≡ unless (misuse (laid i m g) i (length xs)) (written (laid i m g) i xs) (laid i m g) = rw e at w.after in
+    let d : next ≡ written (laid i m g) i xs = rw (a, b) at c in
+    let x : xs ≡ g i = rw (en, el) at ex in
+    d ∙ (ap (written (laid i m g) i) x ∙ laid_more i m g)
 
 -- The three ways of a format, where n and size are the store's.
 module _ {K : Type 0} (κ : Kind K) (m : Meaning) (order n size : ℕ) (en : n ≡ m.count) (es : size ≡ m.size) where

@@ -89,7 +89,7 @@ fn range_entries<S: Store, K: Key>(
     if !is_fit(store.count(), size) {
         return (0, Err(Refusal::Unfit));
     }
-    if hi.less(lo) {
+    if hi < lo {
         return (0, Err(Refusal::Crossed));
     }
     let mut page = [0u8; LONGEST];

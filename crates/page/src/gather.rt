@@ -31,10 +31,10 @@ fn gather_rows<K: Key>(
         let Some(k) = key_at::<K>(rows, i) else {
             return (number, None);
         };
-        if k.less(lo) {
+        if k < *lo {
             continue;
         }
-        if hi.less(&k) {
+        if *hi < k {
             return (number, Some(false));
         }
         let at = number * size;

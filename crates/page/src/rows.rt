@@ -53,7 +53,7 @@ pub fn child_for<K: Key>(rows: &[u8], n: usize, first: u32, key: &K) -> u32
         let Some(k) = key_at::<K>(rows, i) else {
             return child;
         };
-        if key.less(&k) {
+        if *key < k {
             return child;
         }
         child = number_at::<K>(rows, i);
@@ -70,7 +70,7 @@ pub fn place_for<K: Key>(rows: &[u8], n: usize, key: &K) -> usize
         let Some(k) = key_at::<K>(rows, i) else {
             return i;
         };
-        if key.less(&k) {
+        if *key < k {
             return i;
         }
     }
@@ -86,8 +86,8 @@ pub fn record_of<K: Key>(rows: &[u8], n: usize, key: &K) -> Option<u32>
         let Some(k) = key_at::<K>(rows, i) else {
             return None;
         };
-        if !k.less(key) {
-            if key.less(&k) {
+        if k >= *key {
+            if *key < k {
                 return None;
             }
             return Some(number_at::<K>(rows, i));

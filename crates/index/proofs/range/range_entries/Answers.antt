@@ -1,4 +1,5 @@
-use Rattle.std.proofs.Common.{◌+◌, ◌/◌, [], length, subst}
+use Rattle.std.proofs.Common.{◌+◌, ◌/◌, [], length, subst, ◌∙◌}
+use Rattle.keys.proofs.Comparing.{lt_less}
 use Rattle.index.proofs.RangeSteps.{nothing_yet, range_crossed, range_opens}
 use Rattle.index.proofs.Steps.{unfit}
 use Rattle.index.proofs.range.range_entries.Goals as goal
@@ -9,17 +10,17 @@ returns-then-not-is_fit g c =
     let m = g.S.Store.meaning c.args.store.now in
     nothing_yet g.K.Key.kind c.args.buffer.now m _ _ (unfit [] _ m c.count.result c.size-size.result c.count.ensures c.size-size.ensures c.if-not-is_fit.ensures)
 
-pub returns-then-less : goal.returns-then-less
-returns-then-less g c =
+pub returns-then-lt : goal.returns-then-lt
+returns-then-lt g c =
     let κ = g.K.Key.kind in
     let m = g.S.Store.meaning c.args.store.now in
     nothing_yet κ c.args.buffer.now m _ _
-    (range_crossed κ c.args.lo.now c.args.hi.now (length c.args.buffer.now / (κ.width + 4)) m c.count.result c.size-size.result c.count.ensures c.size-size.ensures c.if-not-is_fit.ensures c.if-less.ensures)
+    (range_crossed κ c.args.lo.now c.args.hi.now (length c.args.buffer.now / (κ.width + 4)) m c.count.result c.size-size.result c.count.ensures c.size-size.ensures c.if-not-is_fit.ensures (c.if-lt.ensures ∙ lt_less κ g.met.K.Ord.matches_partial_cmp g.met.K.Key.ordered c.args.hi.now c.args.lo.now))
 
 pub returns : goal.returns
 returns g c =
     let κ = g.K.Key.kind in
     let m = g.S.Store.meaning c.args.store.now in
     subst (RangeEnd κ c.args.buffer.now c.range_below.result c.range_below.new.buffer (g.S.Store.meaning c.range_below.new.store))
-    (range_opens κ c.args.lo.now c.args.hi.now (length c.args.buffer.now / (κ.width + 4)) m c.count.result c.size-size.result c.count.ensures c.size-size.ensures c.if-not-is_fit.ensures c.if-less.ensures)
+    (range_opens κ c.args.lo.now c.args.hi.now (length c.args.buffer.now / (κ.width + 4)) m c.count.result c.size-size.result c.count.ensures c.size-size.ensures c.if-not-is_fit.ensures (c.if-lt.ensures ∙ lt_less κ g.met.K.Ord.matches_partial_cmp g.met.K.Key.ordered c.args.hi.now c.args.lo.now))
     c.range_below.ensures

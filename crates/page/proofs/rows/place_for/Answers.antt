@@ -1,4 +1,5 @@
 use Rattle.std.proofs.Common.{rules}
+use Rattle.keys.proofs.Comparing.{lt_less}
 use Rattle.page.proofs.RowSteps.{row_fits, from_start, place_more, place_all}
 use Rattle.page.specs.Rows.{place_at}
 use Rattle.page.proofs.rows.place_for.Goals as goal
@@ -12,11 +13,11 @@ key_at-requires g c = search (rules, row_fits)
 pub returns-in_default : goal.returns-in_default
 returns-in_default g c = search (rules, place_more, place_all, from_start)
 
-pub returns-then-less : goal.returns-then-less
-returns-then-less g c = search (rules, place_more, place_all, from_start)
+pub returns-then-lt : goal.returns-then-lt
+returns-then-lt g c = let h = lt_less g.K.Key.kind g.met.K.Ord.matches_partial_cmp g.met.K.Key.ordered c.args.key.now c.in-Some.k in search (rules, place_more, place_all, from_start)
 
 pub loop-i-preserved : goal.loop-i-preserved
-loop-i-preserved g c = search (rules, place_more, place_all, from_start)
+loop-i-preserved g c = let h = lt_less g.K.Key.kind g.met.K.Ord.matches_partial_cmp g.met.K.Key.ordered c.args.key.now c.in-Some.k in search (rules, place_more, place_all, from_start)
 
 pub returns : goal.returns
 returns g c = search (rules, place_more, place_all, from_start)

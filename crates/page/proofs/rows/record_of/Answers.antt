@@ -1,4 +1,5 @@
 use Rattle.std.proofs.Common.{rules}
+use Rattle.keys.proofs.Comparing.{ge_less, lt_less}
 use Rattle.page.proofs.RowSteps.{row_fits, from_start, record_more, record_all}
 use Rattle.page.specs.Rows.{record_at}
 use Rattle.page.proofs.rows.record_of.Goals as goal
@@ -12,17 +13,17 @@ key_at-requires g c = search (rules, row_fits)
 pub returns-in_default : goal.returns-in_default
 returns-in_default g c = search (rules, record_more, record_all, from_start)
 
-pub returns-then-less : goal.returns-then-less
-returns-then-less g c = search (rules, record_more, record_all, from_start)
+pub returns-then-lt : goal.returns-then-lt
+returns-then-lt g c = let e = ge_less g.K.Key.kind g.met.K.Ord.matches_partial_cmp g.met.K.Key.ordered c.in-Some.k c.args.key.now in let h = lt_less g.K.Key.kind g.met.K.Ord.matches_partial_cmp g.met.K.Key.ordered c.args.key.now c.in-Some.k in search (rules, record_more, record_all, from_start)
 
 pub number_at-requires : goal.number_at-requires
 number_at-requires g c = search (rules, row_fits)
 
-pub returns-then-not-less : goal.returns-then-not-less
-returns-then-not-less g c = search (rules, record_more, record_all, from_start)
+pub returns-then-ge : goal.returns-then-ge
+returns-then-ge g c = let e = ge_less g.K.Key.kind g.met.K.Ord.matches_partial_cmp g.met.K.Key.ordered c.in-Some.k c.args.key.now in let h = lt_less g.K.Key.kind g.met.K.Ord.matches_partial_cmp g.met.K.Key.ordered c.args.key.now c.in-Some.k in search (rules, record_more, record_all, from_start)
 
 pub loop-i-preserved : goal.loop-i-preserved
-loop-i-preserved g c = search (rules, record_more, record_all, from_start)
+loop-i-preserved g c = let e = ge_less g.K.Key.kind g.met.K.Ord.matches_partial_cmp g.met.K.Key.ordered c.in-Some.k c.args.key.now in search (rules, record_more, record_all, from_start)
 
 pub returns : goal.returns
 returns g c = search (rules, record_more, record_all, from_start)
