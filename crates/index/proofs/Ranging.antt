@@ -13,6 +13,7 @@ use Rattle.std.proofs.lemmas.Nat.{div-add-mod', mul-le}
 use Rattle.std.proofs.lemmas.Bool.{cases_lt, eq-eqb, ne_eqb}
 use Rattle.store.specs.Bytes.{overlaid}
 use Rattle.store.specs.Meaning.{Meaning}
+use Rattle.tree.specs.declared.rule.Rule.TheVariants.{Chain}
 use Rattle.tree.specs.declared.refusal.Refusal.{Refusal}
 use Rattle.tree.specs.declared.refusal.Refusal.TheVariants.{Broken}
 use Rattle.tree.specs.Entries.{write_entries}
@@ -130,10 +131,10 @@ module _ {K : Type 0} (κ : Kind K) (lo hi : K) (order : ℕ) (buf : List ℕ) w
         ∙ (ap (λ (b : Bool). run m (cond b (done (out', false)) (rest s.left out' G.d.link))) t ∙ ap (λ (x : ℕ). run m (rest s.left out' x)) i)
 
     -- more leaves than there can be
-    pub goes_round : r.1 ≡ None → (l : ℕ) → l ≡ u32_at 4 page → (l ≡ 0 → ⊥) → fuel ≡ 0 → RangeEnd κ buf (r.0, Err (Broken 8 l)) buffer' m start
+    pub goes_round : r.1 ≡ None → (l : ℕ) → l ≡ u32_at 4 page → (l ≡ 0 → ⊥) → fuel ≡ 0 → RangeEnd κ buf (r.0, Err (Broken Chain l)) buffer' m start
     unfolding run
     goes_round e l k z f =
-        at_end (Err (Broken 8 l)) m (goes_on e l k z ∙ ap (λ (x : ℕ). run m (chase κ n order lo hi x s.left out' l)) f)
+        at_end (Err (Broken Chain l)) m (goes_on e l k z ∙ ap (λ (x : ℕ). run m (chase κ n order lo hi x s.left out' l)) f)
 
     chase_is : (f : ℕ) → f ≡ suc (fuel - 1) → (l : ℕ)
         → chase κ n order lo hi f s.left out' l ≡ with_node κ n out' order true (least order false true) l (λ d. follow κ lo hi s.left out' d (chase κ n order lo hi (fuel - 1)))

@@ -20,6 +20,7 @@ use page::gather::gather;
 use page::head::is_fit;
 use store::store::Store;
 use tree::refusal::{RangeRefused, Refusal};
+use tree::rule::Rule;
 
 /// Goes from leaf to leaf, the first of which stands in the page, and says how many entries then stand in the buffer.
 fn follow_leaves<S: Store, K: Key>(
@@ -46,7 +47,7 @@ fn follow_leaves<S: Store, K: Key>(
             return (taken, Ok(false));
         }
         if fuel == 0 {
-            return (taken, Err(Refusal::Broken(8, link)));
+            return (taken, Err(Refusal::Broken(Rule::Chain, link)));
         }
         if let Err(refusal) = read_node::<S, K>(store, link, true, false, order, page) {
             return (taken, Err(refusal));

@@ -5,6 +5,8 @@ use Rattle.std.proofs.lemmas.Nat.{mul-le}
 use Rattle.keys.specs.Kind.{Kind, Lawful}
 use Rattle.keys.specs.Rows.{keys_of, rise, rise_above, rows_rise}
 use Rattle.page.specs.Rows.{flaw_of, kid_at, kid_by, kids_within, links_fit, record_at, record_by}
+use Rattle.tree.specs.declared.rule.Rule.{Rule}
+use Rattle.tree.specs.declared.rule.Rule.TheVariants.{Tag, Count, Keys, Links}
 use Rattle.tree.specs.Entries.{above, join_entry, key_of, lookup, number_of, part, part_at, past, rises, see_entries}
 use Rattle.tree.specs.Fields.{u32_at}
 use Rattle.tree.specs.Nodes.{Node, Seen, check, is_block, kids_fit, node_with, numbers_fit, or_wrong, see_node, tag_of}
@@ -12,8 +14,8 @@ use Rattle.tree.specs.Nodes.Seen.{wrong, right}
 use Rattle.tree.specs.Walks.{last_kid}
 
 -- four tests in their order
-abbrev pub verdict : Bool → Bool → Bool → Bool → Option ℕ
-verdict a b c d = cond a (cond b (cond c (cond d None (Some 5)) (Some 4)) (Some 3)) (Some 2)
+abbrev pub verdict : Bool → Bool → Bool → Bool → Option Rule
+verdict a b c d = cond a (cond b (cond c (cond d None (Some Links)) (Some Keys)) (Some Count)) (Some Tag)
 
 -- a count that is let through has room for its entries
 pub count_fits : (low n m e l : ℕ) → true ≡ leb low n && leb n m → 8 + m * e ≤ l → 8 + n * e ≤ l
@@ -94,7 +96,7 @@ module _ {K : Type 0} (κ : Kind K) where
       go (Some k) None v w h = tt
       go (Some k) (Some es) v w h = ap (λ (x : Bool). cond (is_block count v) x false) h ∙ and_cond (is_block count v) (kids_fit κ count es)
 
-  flaw_check : {A : Type 0} (r : ℕ) (t : Bool) (s : Seen A) → flaw_of (check r t s) ≡ cond t (flaw_of s) (Some r)
+  flaw_check : {A : Type 0} (r : Rule) (t : Bool) (s : Seen A) → flaw_of (check r t s) ≡ cond t (flaw_of s) (Some r)
   flaw_check r true s = refl
   flaw_check r false s = refl
 
@@ -103,27 +105,27 @@ module _ {K : Type 0} (κ : Kind K) where
   numbers n c false bs es e h = ap (λ (x : Bool). is_block n (u32_at 4 bs) && x) (sym (rw e at h))
 
   rest_is : (n : ℕ) (leaf : Bool) (bs : List ℕ) (o : Option (List (K × ℕ))) → some_kids n o (kids_within κ n (get_or bs 1 0) (drop 8 bs))
-      → flaw_of (or_wrong 4 (λ es. check 4 (rises κ es) (check 5 (numbers_fit κ n leaf (node_with κ bs es)) (right (node_with κ bs es)))) o) ≡ cond (some_rise None o) (cond (links_fit κ n leaf bs) None (Some 5)) (Some 4)
+      → flaw_of (or_wrong Keys (λ es. check Keys (rises κ es) (check Links (numbers_fit κ n leaf (node_with κ bs es)) (right (node_with κ bs es)))) o) ≡ cond (some_rise None o) (cond (links_fit κ n leaf bs) None (Some Links)) (Some Keys)
   unfolding some_kids
   rest_is n leaf bs None h = refl
   rest_is n leaf bs (Some es) h =
-      flaw_check 4 (rises κ es) _ ∙ rw (rises_is es)
-      (ap (λ (x : Option ℕ). cond (rises_from None es) x (Some 4))
-      (flaw_check 5 (numbers_fit κ n leaf (node_with κ bs es)) (right (node_with κ bs es)) ∙ ap (λ (b : Bool). cond b None (Some 5)) (numbers n (get_or bs 1 0) leaf bs es refl h)))
+      flaw_check Keys (rises κ es) _ ∙ rw (rises_is es)
+      (ap (λ (x : Option Rule). cond (rises_from None es) x (Some Keys))
+      (flaw_check Links (numbers_fit κ n leaf (node_with κ bs es)) (right (node_with κ bs es)) ∙ ap (λ (b : Bool). cond b None (Some Links)) (numbers n (get_or bs 1 0) leaf bs es refl h)))
 
   pub flaw_is : (n m : ℕ) (leaf : Bool) (low : ℕ) (bs : List ℕ) → flaw_of (see_node κ n m leaf low bs)
       ≡ verdict (eqb (get_or bs 0 0) (tag_of leaf)) (leb low (get_or bs 1 0) && leb (get_or bs 1 0) m) (rows_rise κ (κ.width + 4) (get_or bs 1 0) (drop 8 bs)) (links_fit κ n leaf bs)
   unfolding see_node
   flaw_is n m leaf low bs =
-      flaw_check 2 (eqb (get_or bs 0 0) (tag_of leaf)) _ ∙ ap (λ (x : Option ℕ). cond (eqb (get_or bs 0 0) (tag_of leaf)) x (Some 2))
-      (flaw_check 3 (leb low (get_or bs 1 0) && leb (get_or bs 1 0) m) _ ∙ ap (λ (x : Option ℕ). cond (leb low (get_or bs 1 0) && leb (get_or bs 1 0) m) x (Some 3))
+      flaw_check Tag (eqb (get_or bs 0 0) (tag_of leaf)) _ ∙ ap (λ (x : Option Rule). cond (eqb (get_or bs 0 0) (tag_of leaf)) x (Some Tag))
+      (flaw_check Count (leb low (get_or bs 1 0) && leb (get_or bs 1 0) m) _ ∙ ap (λ (x : Option Rule). cond (leb low (get_or bs 1 0) && leb (get_or bs 1 0) m) x (Some Count))
       (rw (rise_entries (get_or bs 1 0) (drop 8 bs)) (rest_is n leaf bs (see_entries κ (get_or bs 1 0) (drop 8 bs)) (kids_entries n (get_or bs 1 0) (drop 8 bs)))))
 
-  check_right : {A : Type 0} (r : ℕ) (t : Bool) (s : Seen A) (d : A) → check r t s ≡ right d → (t ≡ true) × (s ≡ right d)
+  check_right : {A : Type 0} (r : Rule) (t : Bool) (s : Seen A) (d : A) → check r t s ≡ right d → (t ≡ true) × (s ≡ right d)
   check_right r true s d h = (refl, h)
   check_right r false s d h = absurd (let z : ◌≡◌ {A = ℕ} 0 1 = cc in omega arith)
 
-  or_right : {A B : Type 0} (r : ℕ) (f : A → Seen B) (o : Option A) (d : B) → or_wrong r f o ≡ right d → (a : A) × (o ≡ Some a) × (f a ≡ right d)
+  or_right : {A B : Type 0} (r : Rule) (f : A → Seen B) (o : Option A) (d : B) → or_wrong r f o ≡ right d → (a : A) × (o ≡ Some a) × (f a ≡ right d)
   or_right r f None d h = absurd (let z : ◌≡◌ {A = ℕ} 0 1 = cc in omega arith)
   or_right r f (Some a) d h = (a, refl, h)
 
@@ -136,11 +138,11 @@ module _ {K : Type 0} (κ : Kind K) where
   pub seen_right : (n m : ℕ) (leaf : Bool) (low : ℕ) (bs : List ℕ) (d : Node K) → see_node κ n m leaf low bs ≡ right d → Right n m leaf low bs d
   unfolding see_node
   seen_right n m leaf low bs d h =
-      let a = check_right 2 _ _ d h in
-      let b = check_right 3 _ _ d a.1 in
-      let o = or_right 4 _ (see_entries κ (get_or bs 1 0) (drop 8 bs)) d b.1 in
-      let e = check_right 4 (rises κ o.0) _ d o.2 in
-      let f = check_right 5 _ _ d e.1 in
+      let a = check_right Tag _ _ d h in
+      let b = check_right Count _ _ d a.1 in
+      let o = or_right Keys _ (see_entries κ (get_or bs 1 0) (drop 8 bs)) d b.1 in
+      let e = check_right Keys (rises κ o.0) _ d o.2 in
+      let f = check_right Links _ _ d e.1 in
       let same : o.0 ≡ d.entries = seen_same f.1 in
       record { count = sym b.0; entries = o.1 ∙ ap {B = Option (List (K × ℕ))} Some same; link = seen_link f.1; rising = ap (λ (x : List (K × ℕ)). rises κ x) (sym same) ∙ e.0 }
     where

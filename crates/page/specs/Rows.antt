@@ -9,6 +9,7 @@
 --   flaw_of s                     the rule that a block breaks
 use Rattle.std.specs.Prelude.{ℕ, zero, suc, ◌+◌, ◌*◌, Bool, true, false, cond, ◌&&◌, List, drop, Some, None, Option, nat_lt}
 use Rattle.keys.specs.Kind.{Kind}
+use Rattle.tree.specs.declared.rule.Rule.{Rule}
 use Rattle.tree.specs.Entries.{key_of, number_of, past}
 use Rattle.tree.specs.Fields.{u32_at, u8_at}
 use Rattle.tree.specs.Nodes.{Seen, is_block}
@@ -50,6 +51,6 @@ module _ {K : Type 0} (κ : Kind K) where
   links_fit count true bs = nat_lt (u32_at 4 bs) count
   links_fit count false bs = is_block count (u32_at 4 bs) && kids_within count (u8_at 1 bs) (drop 8 bs)
 
-abbrev pub flaw_of : {A : Type 0} → Seen A → Option ℕ
+abbrev pub flaw_of : {A : Type 0} → Seen A → Option Rule
 flaw_of (wrong r) = Some r
 flaw_of (right d) = None

@@ -10,6 +10,7 @@ use crate::rows::NUMBER;
 use keys::key::Key;
 use tree::head::Head;
 use tree::refusal::Refusal;
+use tree::rule::Rule;
 
 /// The head's numbers, whatever they are.
 fn head_of(page: &[u8]) -> Head
@@ -84,7 +85,7 @@ pub fn examine_head<K: Key>(page: &[u8], count: u32) -> Result<Head, Refusal>
     }
     let head = head_of(page);
     if !keeps_rule_1::<K>(&head, count, page.len()) {
-        return Err(Refusal::Broken(1, 0));
+        return Err(Refusal::Broken(Rule::HeadNumbers, 0));
     }
     Ok(head)
 }

@@ -10,6 +10,7 @@ use crate::fields::u32_at;
 use crate::rows::{NUMBER, all_blocks, child_for, place_for, record_of};
 use keys::key::Key;
 use keys::rows::rising;
+use tree::rule::Rule;
 
 /// Where the entries begin.
 pub const ENTRIES: usize = 8;
@@ -75,21 +76,21 @@ fn has_links<K: Key>(page: &[u8], leaf: bool, count: u32) -> bool
 }
 
 /// The first of rules 2 to 5 that a block breaks.
-pub fn flaw<K: Key>(page: &[u8], leaf: bool, low: u8, order: u8, count: u32) -> Option<u8>
+pub fn flaw<K: Key>(page: &[u8], leaf: bool, low: u8, order: u8, count: u32) -> Option<Rule>
     requires { 8 + order * (K.Key.kind.width + 4) ≤ length page.now }
     ensures { result ≡ flaw_of (see_node K.Key.kind count order leaf low page.now) }
 {
     if !has_tag(page, leaf) {
-        return Some(2);
+        return Some(Rule::Tag);
     }
     if !has_count(page, low, order) {
-        return Some(3);
+        return Some(Rule::Count);
     }
     if !has_keys::<K>(page) {
-        return Some(4);
+        return Some(Rule::Keys);
     }
     if !has_links::<K>(page, leaf, count) {
-        return Some(5);
+        return Some(Rule::Links);
     }
     None
 }

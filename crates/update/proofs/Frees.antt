@@ -6,6 +6,7 @@ use Rattle.std.proofs.lemmas.Bool.{le-leb, ne_eqb}
 use Rattle.store.specs.declared.fault.Fault.{Fault}
 use Rattle.store.specs.Calls.{refusal}
 use Rattle.store.specs.Meaning.{Meaning, tallied}
+use Rattle.tree.specs.declared.rule.Rule.TheVariants.{FreeList}
 use Rattle.tree.specs.declared.refusal.Refusal.{Refusal}
 use Rattle.tree.specs.declared.refusal.Refusal.TheVariants.{Broken, Unreadable}
 use Rattle.tree.specs.Inserts.{with_frees}
@@ -39,7 +40,7 @@ module _ {K : Type 0} (κ : Kind K) (m₀ : Meaning) (need first : ℕ) where
     more : need - i ≡ suc (need - (i + 1))
     more = omega arith
 
-    pub going_ended : b ≡ 0 → run m₀ (frees_from κ m₀.count m₀.size need first) ≡ (bare (Err (Broken 9 0)), m)
+    pub going_ended : b ≡ 0 → run m₀ (frees_from κ m₀.count m₀.size need first) ≡ (bare (Err (Broken FreeList 0)), m)
     unfolding run
     going_ended e = G.rest ∙ rw (more, e)
 

@@ -12,6 +12,7 @@ use keys::key::Key;
 use page::fields::u32_at;
 use store::store::Store;
 use tree::refusal::Refusal;
+use tree::rule::Rule;
 
 /// The block after a free block, where the page shows one that keeps rules 2, 3 and 5.
 fn examine_free(page: &[u8], block: u32, count: u32) -> Result<u32, Refusal>
@@ -19,14 +20,14 @@ fn examine_free(page: &[u8], block: u32, count: u32) -> Result<u32, Refusal>
     ensures { result ≡ free_answer None block (see_free count page.now) }
 {
     if page[0] != 3 {
-        return Err(Refusal::Broken(2, block));
+        return Err(Refusal::Broken(Rule::Tag, block));
     }
     if page[1] != 0 {
-        return Err(Refusal::Broken(3, block));
+        return Err(Refusal::Broken(Rule::Count, block));
     }
     let link = u32_at(page, 4);
     if link >= count {
-        return Err(Refusal::Broken(5, block));
+        return Err(Refusal::Broken(Rule::Links, block));
     }
     Ok(link)
 }
@@ -62,7 +63,7 @@ pub fn read_frees<S: Store, K: Key>(
     let mut block = first;
     for _i in 0..need {
         if block == 0 {
-            return Err(Refusal::Broken(9, 0));
+            return Err(Refusal::Broken(Rule::FreeList, 0));
         }
         let next = read_free(store, block, page)?;
         spare.push(block);
