@@ -2,12 +2,14 @@
 use Rattle.std.proofs.Common.{◌≡◌, ℕ, ◌+◌, ◌-◌, ◌/◌, Bool, true, false, List, [], length, Ok, Err, Result, sym, refl, ap, ◌∙◌, subst}
 use Rattle.index.proofs.Steps.{head_step, walk_then}
 use Rattle.index.specs.Leaves.{Leaf, Reached, continued, leaf_from}
-use Rattle.index.specs.Rangings.{RangeEnd}
+use Rattle.index.specs.Rangings.{RangeEnd, ended, entries_of}
 use Rattle.index.specs.Readings.{head_answer}
 use Rattle.keys.specs.Kind.{Kind}
 use Rattle.store.specs.Calls.{refusal}
 use Rattle.store.specs.Meaning.{Meaning, tallied}
 use Rattle.tree.specs.declared.head.Head.{Head}
+use Rattle.tree.specs.declared.refusal.RangeRefusal.{RangeRefusal}
+use Rattle.tree.specs.Refusals.{before_entries}
 use Rattle.tree.specs.declared.refusal.Refusal.{Refusal}
 use Rattle.tree.specs.declared.refusal.Refusal.TheVariants.{Crossed}
 use Rattle.tree.specs.Entries.{write_entries}
@@ -18,10 +20,11 @@ use Rattle.tree.specs.Ranges.{chase, follow, range_below, range_plan}
 use Rattle.tree.specs.Walks.{is_fit, with_head}
 
 -- a range that is refused before its first leaf
-pub nothing_yet : {K : Type 0} (κ : Kind K) (buf : List ℕ) (after : Meaning) (e : Refusal) (out : Outcome (List (K × ℕ)) (List (K × ℕ) × Bool))
-    → out ≡ (Err (record { left = []; why = e }), after) → RangeEnd κ buf (0, Err e) buf after out
+pub nothing_yet : {K : Type 0} (κ : Kind K) (buf : List ℕ) (after : Meaning) (e : Refusal) (out : Outcome (List (K × ℕ)) (List (K × ℕ) × Bool)) (r : Result (ℕ × Bool) RangeRefusal)
+    → r ≡ Err (before_entries e) → out ≡ (Err (record { left = []; why = e }), after) → RangeEnd κ buf r buf after out
 unfolding write_entries
-nothing_yet κ buf after e out h = record { out = []; number = refl; filled = refl; came = h }
+nothing_yet κ buf after e out r q h =
+    record { out = []; number = ap entries_of q; filled = refl; came = h ∙ ap (λ (s : Result (ℕ × Bool) RangeRefusal). (ended [] s, after)) (sym q) }
 
 pub leaf_there : {K : Type 0} (κ : Kind K) (n n' order : ℕ) (page : List ℕ) (d : Node K) → n' ≡ n → Leaf κ n order page d → Leaf κ n' order page d
 leaf_there κ n n' order page d e l = record { low = l.low; seen = ap (λ (x : ℕ). see_node κ x order true l.low page) e ∙ l.seen }
@@ -44,11 +47,11 @@ module _ {K : Type 0} (κ : Kind K) (lo hi : K) (buf : List ℕ) (m m' : Meaning
       ∙ walk_then κ m'.count d.order lo [] (go m'.count) (d.levels - 1) true d.root m')
 
   module _ (after : Meaning) (page : List ℕ) where
-    pub not_reached : (e : Refusal) → Reached κ m' d.order lo (d.levels - 1) d.root (Err e) page after → RangeEnd κ buf (0, Err e) buf after whole
-    not_reached e r = nothing_yet κ buf after e whole (opened ∙ ap (λ (o : Outcome Unit (Node K)). continued [] (go m'.count) o) r)
+    pub not_reached : (e : Refusal) (r : Result (ℕ × Bool) RangeRefusal) → r ≡ Err (before_entries e) → Reached κ m' d.order lo (d.levels - 1) d.root (Err e) page after → RangeEnd κ buf r buf after whole
+    not_reached e r q R = nothing_yet κ buf after e whole r q (opened ∙ ap (λ (o : Outcome Unit (Node K)). continued [] (go m'.count) o) R)
 
     pub first_reached : (R : Reached κ m' d.order lo (d.levels - 1) d.root (Ok tt) page after) → after.count ≡ m'.count
-        → (r : ℕ × Result Bool Refusal) (buf' : List ℕ) (end : Meaning)
+        → (r : Result (ℕ × Bool) RangeRefusal) (buf' : List ℕ) (end : Meaning)
         → RangeEnd κ buf r buf' end (run after (follow κ lo hi cap [] R.0 (chase κ after.count d.order lo hi (after.count - 2))))
         → RangeEnd κ buf r buf' end whole
     first_reached R c r buf' end x =

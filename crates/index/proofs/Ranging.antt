@@ -1,7 +1,7 @@
 -- A range, leaf by leaf.
 use Rattle.std.proofs.Common.{◌≡◌, ℕ, suc, ◌+◌, ◌-◌, ◌*◌, ◌/◌, ◌<◌, ◌≤◌, Bool, true, false, cond, eqb, List, [], ◌++◌, length, Some, None, Ok, Err, Option, Result, sym, refl, ap, ◌∙◌, ⊎_elim, add-mul, zero-mul, arith, length-append, rules}
 use Rattle.index.specs.Leaves.{Leaf}
-use Rattle.index.specs.Rangings.{RangeEnd, ended}
+use Rattle.index.specs.Rangings.{RangeEnd, ended, entries_of}
 use Rattle.index.specs.Readings.{Reading}
 use Rattle.index.proofs.Steps.{stops, went_on}
 use Rattle.keys.specs.Kind.{Kind, Lawful}
@@ -14,6 +14,7 @@ use Rattle.std.proofs.lemmas.Bool.{cases_lt, eq-eqb, ne_eqb}
 use Rattle.store.specs.Bytes.{overlaid}
 use Rattle.store.specs.Meaning.{Meaning}
 use Rattle.tree.specs.declared.rule.Rule.TheVariants.{Chain}
+use Rattle.tree.specs.declared.refusal.RangeRefusal.{RangeRefusal}
 use Rattle.tree.specs.declared.refusal.Refusal.{Refusal}
 use Rattle.tree.specs.declared.refusal.Refusal.TheVariants.{Broken}
 use Rattle.tree.specs.Entries.{write_entries}
@@ -105,23 +106,27 @@ module _ {K : Type 0} (κ : Kind K) (lo hi : K) (order : ℕ) (buf : List ℕ) w
     turned : (o : Option Bool) → r.1 ≡ o → start ≡ run m (after_leaf κ G.out s G.d.link rest o)
     turned o e = G.going ∙ ap (λ (x : Option Bool). run m (after_leaf κ G.out s G.d.link rest x)) (end_is o e)
 
-    at_end : (r' : Result Bool Refusal) (after : Meaning) → start ≡ (ended out' r', after) → RangeEnd κ buf (r.0, r') buffer' after start
-    at_end r' after e = record { out = out'; number = number'; filled = filled'; came = e }
+    at_end : (r' : Result (ℕ × Bool) RangeRefusal) (after : Meaning) → entries_of r' ≡ r.0 → start ≡ (ended out' r', after) → RangeEnd κ buf r' buffer' after start
+    at_end r' after q e = record { out = out'; number = q ∙ number'; filled = filled'; came = e }
+
+    -- a refusal with the entries of the leaves before it
+    abbrev pub here : Refusal → RangeRefusal
+    here why = record { refusal = why; entries = r.0 }
 
     link_is : (l : ℕ) → l ≡ u32_at 4 page → G.d.link ≡ l
     link_is l e = (seen_right κ n order true G.leaf.low page G.d G.leaf.seen).link ∙ sym e
 
     -- the range ends in this leaf
-    pub ends_here : (more : Bool) → r.1 ≡ Some more → RangeEnd κ buf (r.0, Ok more) buffer' m start
+    pub ends_here : (more : Bool) → r.1 ≡ Some more → RangeEnd κ buf (Ok (r.0, more)) buffer' m start
     unfolding run
-    ends_here more e = at_end (Ok more) m (turned (Some more) e)
+    ends_here more e = at_end (Ok (r.0, more)) m refl (turned (Some more) e)
 
     -- there is no leaf after it
-    pub ends_last : r.1 ≡ None → (l : ℕ) → l ≡ u32_at 4 page → l ≡ 0 → RangeEnd κ buf (r.0, Ok false) buffer' m start
+    pub ends_last : r.1 ≡ None → (l : ℕ) → l ≡ u32_at 4 page → l ≡ 0 → RangeEnd κ buf (Ok (r.0, false)) buffer' m start
     unfolding run
     ends_last e l k z =
         let t : eqb G.d.link 0 ≡ true = eq-eqb G.d.link 0 (link_is l k ∙ z) in
-        at_end (Ok false) m (turned None e ∙ ap (λ (b : Bool). run m (cond b (done (out', false)) (rest s.left out' G.d.link))) t)
+        at_end (Ok (r.0, false)) m refl (turned None e ∙ ap (λ (b : Bool). run m (cond b (done (out', false)) (rest s.left out' G.d.link))) t)
 
     goes_on : r.1 ≡ None → (l : ℕ) → l ≡ u32_at 4 page → (l ≡ 0 → ⊥) → start ≡ run m (rest s.left out' l)
     goes_on e l k z =
@@ -131,10 +136,10 @@ module _ {K : Type 0} (κ : Kind K) (lo hi : K) (order : ℕ) (buf : List ℕ) w
         ∙ (ap (λ (b : Bool). run m (cond b (done (out', false)) (rest s.left out' G.d.link))) t ∙ ap (λ (x : ℕ). run m (rest s.left out' x)) i)
 
     -- more leaves than there can be
-    pub goes_round : r.1 ≡ None → (l : ℕ) → l ≡ u32_at 4 page → (l ≡ 0 → ⊥) → fuel ≡ 0 → RangeEnd κ buf (r.0, Err (Broken Chain l)) buffer' m start
+    pub goes_round : r.1 ≡ None → (l : ℕ) → l ≡ u32_at 4 page → (l ≡ 0 → ⊥) → fuel ≡ 0 → RangeEnd κ buf (Err (here (Broken Chain l))) buffer' m start
     unfolding run
     goes_round e l k z f =
-        at_end (Err (Broken Chain l)) m (goes_on e l k z ∙ ap (λ (x : ℕ). run m (chase κ n order lo hi x s.left out' l)) f)
+        at_end (Err (here (Broken Chain l))) m refl (goes_on e l k z ∙ ap (λ (x : ℕ). run m (chase κ n order lo hi x s.left out' l)) f)
 
     chase_is : (f : ℕ) → f ≡ suc (fuel - 1) → (l : ℕ)
         → chase κ n order lo hi f s.left out' l ≡ with_node κ n out' order true (least order false true) l (λ d. follow κ lo hi s.left out' d (chase κ n order lo hi (fuel - 1)))
@@ -150,8 +155,8 @@ module _ {K : Type 0} (κ : Kind K) (lo hi : K) (order : ℕ) (buf : List ℕ) w
       reads =
           goes_on e l k z ∙ (ap (run m) (chase_is fuel (omega arith) l) ∙ ap (λ (x : ℕ). run m (with_node κ x out' order true (least order false true) l next)) count)
 
-      pub next_stops : (why : Refusal) → Err why ≡ answer → RangeEnd κ buf (r.0, Err why) buffer' after start
-      next_stops why o = at_end (Err why) after (reads ∙ stops κ m false true order l page page' after R.filled R.tallies out' next why (o ∙ R.answer))
+      pub next_stops : (why : Refusal) → Err why ≡ answer → RangeEnd κ buf (Err (here why)) buffer' after start
+      next_stops why o = at_end (Err (here why)) after refl (reads ∙ stops κ m false true order l page page' after R.filled R.tallies out' next why (o ∙ R.answer))
 
       pub next_goes : Ok tt ≡ answer → Going start n after page' buffer' r.0 (fuel - 1)
       next_goes o =

@@ -43,17 +43,6 @@ fn find_record<S: Store, K: Key>(store: &mut S, key: &K) -> Result<Option<u32>, 
     find_below(store, key, &mut page[0..size as usize])
 }
 
-/// The same with the reads made.
-fn find_told<S: Store, K: Key>(store: &mut S, key: &K) -> Result<(Option<u32>, u64), Refused>
-    ensures answer { result ≡ told (S.Store.meaning store.old).tally (run (S.Store.meaning store.old) (find_plan K.Key.kind (S.Store.meaning store.old).count (S.Store.meaning store.old).size key.now)) }
-    ensures after { S.Store.meaning store.new ≡ (run (S.Store.meaning store.old) (find_plan K.Key.kind (S.Store.meaning store.old).count (S.Store.meaning store.old).size key.now)).1 }
-    ensures tally { (S.Store.meaning store.old).tally < 2 ^ 64 }
-{
-    let before = store.tally();
-    let answer = find_record(store, key);
-    tell(store, before, answer)
-}
-
 /// The record of a key, or none, with the reads made.
 pub fn find<S: Store, K: Key>(store: &mut S, key: &K) -> Result<(Option<u32>, u64), Refused>
     ensures answer { result ≡ told (S.Store.meaning store.old).tally (run (S.Store.meaning store.old) (find_plan K.Key.kind (S.Store.meaning store.old).count (S.Store.meaning store.old).size key.now)) }
@@ -62,5 +51,7 @@ pub fn find<S: Store, K: Key>(store: &mut S, key: &K) -> Result<(Option<u32>, u6
     ensures unreadable { Exactly (S.Store.meaning store.old) (find_plan K.Key.kind (S.Store.meaning store.old).count (S.Store.meaning store.old).size key.now) }
     ensures sound { (s : Sound K.Key.kind (S.Store.meaning store.old).count (S.Store.meaning store.old).size (S.Store.meaning store.old).contents) → Finds (S.Store.meaning store.old) s key.now result }
 {
-    find_told(store, key)
+    let before = store.tally();
+    let answer = find_record(store, key);
+    tell(store, before, answer)
 }

@@ -74,21 +74,13 @@ fn format_blocks<S: Store, K: Key>(store: &mut S, order: u8) -> Result<(), Refus
     Ok(())
 }
 
-/// The same with the reads made.
-fn format_told<S: Store, K: Key>(store: &mut S, order: u8) -> Result<((), u64), Refused>
-    ensures answer { result ≡ told (S.Store.meaning store.old).tally (run (S.Store.meaning store.old) (format_plan K.Key.kind (S.Store.meaning store.old).count (S.Store.meaning store.old).size order)) }
-    ensures after { S.Store.meaning store.new ≡ format_after K.Key.kind (S.Store.meaning store.old) order }
-{
-    let before = store.tally();
-    let answer = format_blocks::<S, K>(store, order);
-    tell(store, before, answer)
-}
-
 /// Makes an empty index of nodes of at most `order` entries. It reads nothing.
 pub fn format<S: Store, K: Key>(store: &mut S, order: u8) -> Result<((), u64), Refused>
     ensures answer { result ≡ told (S.Store.meaning store.old).tally (run (S.Store.meaning store.old) (format_plan K.Key.kind (S.Store.meaning store.old).count (S.Store.meaning store.old).size order)) }
     ensures after { S.Store.meaning store.new ≡ format_after K.Key.kind (S.Store.meaning store.old) order }
     ensures sound { (i : ℕ) → result ≡ Ok (tt, i) → Empty K.Key.kind (S.Store.meaning store.new) }
 {
-    format_told::<S, K>(store, order)
+    let before = store.tally();
+    let answer = format_blocks::<S, K>(store, order);
+    tell(store, before, answer)
 }

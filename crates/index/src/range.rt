@@ -14,12 +14,13 @@ ghost use Rattle.tree.specs.Ranges.{chase, follow, range_below, range_plan, rang
 
 use crate::leaf::reach_leaf;
 use crate::reading::{LONGEST, read_head, read_node};
+use crate::telling::tell;
 use keys::key::Key;
 use page::fields::u32_at;
 use page::gather::gather;
 use page::head::is_fit;
 use store::store::Store;
-use tree::refusal::{RangeRefused, Refusal};
+use tree::refusal::{RangeRefusal, Refusal, Refused};
 use tree::rule::Rule;
 
 /// Goes from leaf to leaf, the first of which stands in the page, and says how many entries then stand in the buffer.
@@ -30,7 +31,7 @@ fn follow_leaves<S: Store, K: Key>(
     order: u8,
     page: &mut [u8],
     buffer: &mut [u8],
-) -> (usize, Result<bool, Refusal>)
+) -> Result<(usize, bool), RangeRefusal>
     requires { (length page.old ≡ (S.Store.meaning store.old).size) × ((8 + order * (K.Key.kind.width + 4) ≤ (S.Store.meaning store.old).size) × ((8 + u8_at 1 page.old * (K.Key.kind.width + 4) ≤ length page.old) × (2 ≤ (S.Store.meaning store.old).count))) }
     ensures { (d : Node K) → Leaf K.Key.kind (S.Store.meaning store.old).count order page.old d → RangeEnd K.Key.kind buffer.old result buffer.new (S.Store.meaning store.new) (run (S.Store.meaning store.old) (follow K.Key.kind lo.now hi.now (length buffer.old / (K.Key.kind.width + 4)) [] d (chase K.Key.kind (S.Store.meaning store.old).count order lo.now hi.now ((S.Store.meaning store.old).count - 2)))) }
 {
@@ -40,17 +41,23 @@ fn follow_leaves<S: Store, K: Key>(
         let (number, end) = gather(page, lo, hi, buffer, taken);
         taken = number;
         if let Some(more) = end {
-            return (taken, Ok(more));
+            return Ok((taken, more));
         }
         let link = u32_at(page, 4);
         if link == 0 {
-            return (taken, Ok(false));
+            return Ok((taken, false));
         }
         if fuel == 0 {
-            return (taken, Err(Refusal::Broken(Rule::Chain, link)));
+            return Err(RangeRefusal {
+                refusal: Refusal::Broken(Rule::Chain, link),
+                entries: taken,
+            });
         }
         if let Err(refusal) = read_node::<S, K>(store, link, true, false, order, page) {
-            return (taken, Err(refusal));
+            return Err(RangeRefusal {
+                refusal,
+                entries: taken,
+            });
         }
         fuel -= 1;
     }
@@ -63,17 +70,12 @@ fn range_below<S: Store, K: Key>(
     hi: &K,
     page: &mut [u8],
     buffer: &mut [u8],
-) -> (usize, Result<bool, Refusal>)
+) -> Result<(usize, bool), RangeRefusal>
     requires { (length page.old ≡ (S.Store.meaning store.old).size) × ((64 ≤ (S.Store.meaning store.old).size) × (2 ≤ (S.Store.meaning store.old).count)) }
     ensures { RangeEnd K.Key.kind buffer.old result buffer.new (S.Store.meaning store.new) (run (S.Store.meaning store.old) (with_head K.Key.kind (S.Store.meaning store.old).count (S.Store.meaning store.old).size [] (range_below K.Key.kind (S.Store.meaning store.old).count lo.now hi.now (length buffer.old / (K.Key.kind.width + 4))))) }
 {
-    let head = match read_head::<S, K>(store, page) {
-        Ok(head) => head,
-        Err(refusal) => return (0, Err(refusal)),
-    };
-    if let Err(refusal) = reach_leaf::<S, K>(store, lo, head.order, head.levels, head.root, page) {
-        return (0, Err(refusal));
-    }
+    let head = read_head::<S, K>(store, page)?;
+    reach_leaf::<S, K>(store, lo, head.order, head.levels, head.root, page)?;
     follow_leaves::<S, K>(store, lo, hi, head.order, page, buffer)
 }
 
@@ -83,42 +85,18 @@ fn range_entries<S: Store, K: Key>(
     lo: &K,
     hi: &K,
     buffer: &mut [u8],
-) -> (usize, Result<bool, Refusal>)
+) -> Result<(usize, bool), RangeRefusal>
     ensures { RangeEnd K.Key.kind buffer.old result buffer.new (S.Store.meaning store.new) (run (S.Store.meaning store.old) (range_plan K.Key.kind (S.Store.meaning store.old).count (S.Store.meaning store.old).size lo.now hi.now (length buffer.old / (K.Key.kind.width + 4)))) }
 {
     let size = store.size();
     if !is_fit(store.count(), size) {
-        return (0, Err(Refusal::Unfit));
+        return Err(Refusal::Unfit.into());
     }
     if hi < lo {
-        return (0, Err(Refusal::Crossed));
+        return Err(Refusal::Crossed.into());
     }
     let mut page = [0u8; LONGEST];
     range_below::<S, K>(store, lo, hi, &mut page[0..size as usize], buffer)
-}
-
-/// The same with the reads made.
-fn range_told<S: Store, K: Key>(
-    store: &mut S,
-    lo: &K,
-    hi: &K,
-    buffer: &mut [u8],
-) -> Result<((usize, bool), u64), RangeRefused>
-    ensures answer { result ≡ range_told (S.Store.meaning store.old).tally (run (S.Store.meaning store.old) (range_plan K.Key.kind (S.Store.meaning store.old).count (S.Store.meaning store.old).size lo.now hi.now (length buffer.old / (K.Key.kind.width + 4)))) }
-    ensures buffer { buffer.new ≡ overlaid buffer.old 0 (write_entries K.Key.kind (standing (run (S.Store.meaning store.old) (range_plan K.Key.kind (S.Store.meaning store.old).count (S.Store.meaning store.old).size lo.now hi.now (length buffer.old / (K.Key.kind.width + 4)))).0)) }
-    ensures after { S.Store.meaning store.new ≡ (run (S.Store.meaning store.old) (range_plan K.Key.kind (S.Store.meaning store.old).count (S.Store.meaning store.old).size lo.now hi.now (length buffer.old / (K.Key.kind.width + 4)))).1 }
-{
-    let before = store.tally();
-    let (entries, end) = range_entries(store, lo, hi, buffer);
-    let reads = store.tally().wrapping_sub(before);
-    match end {
-        Ok(more) => Ok(((entries, more), reads)),
-        Err(refusal) => Err(RangeRefused {
-            refusal,
-            entries,
-            reads,
-        }),
-    }
 }
 
 /// Fills the buffer with the entries from `lo` to `hi`, both included, as far as they fit, and answers how many there are and
@@ -128,12 +106,14 @@ pub fn range<S: Store, K: Key>(
     lo: &K,
     hi: &K,
     buffer: &mut [u8],
-) -> Result<((usize, bool), u64), RangeRefused>
+) -> Result<((usize, bool), u64), Refused<RangeRefusal>>
     ensures answer { result ≡ range_told (S.Store.meaning store.old).tally (run (S.Store.meaning store.old) (range_plan K.Key.kind (S.Store.meaning store.old).count (S.Store.meaning store.old).size lo.now hi.now (length buffer.old / (K.Key.kind.width + 4)))) }
     ensures buffer { buffer.new ≡ overlaid buffer.old 0 (write_entries K.Key.kind (standing (run (S.Store.meaning store.old) (range_plan K.Key.kind (S.Store.meaning store.old).count (S.Store.meaning store.old).size lo.now hi.now (length buffer.old / (K.Key.kind.width + 4)))).0)) }
     ensures after { S.Store.meaning store.new ≡ (run (S.Store.meaning store.old) (range_plan K.Key.kind (S.Store.meaning store.old).count (S.Store.meaning store.old).size lo.now hi.now (length buffer.old / (K.Key.kind.width + 4)))).1 }
     ensures course { Kept (S.Store.meaning store.old) (range_plan K.Key.kind (S.Store.meaning store.old).count (S.Store.meaning store.old).size lo.now hi.now (length buffer.old / (K.Key.kind.width + 4))) }
     ensures unreadable { Exactly (S.Store.meaning store.old) (range_plan K.Key.kind (S.Store.meaning store.old).count (S.Store.meaning store.old).size lo.now hi.now (length buffer.old / (K.Key.kind.width + 4))) }
 {
-    range_told(store, lo, hi, buffer)
+    let before = store.tally();
+    let answer = range_entries(store, lo, hi, buffer);
+    tell(store, before, answer)
 }

@@ -1,18 +1,18 @@
 //! Answers with the reads that were made for them.
 
 ghost use Rattle.std.specs.Prelude.{◌≡◌};
-ghost use Rattle.tree.specs.Plans.{bare, told};
+ghost use Rattle.tree.specs.Plans.{rise, with_reads};
 
 use store::store::Store;
-use tree::refusal::{Refusal, Refused};
+use tree::refusal::Refused;
 
-/// What a call answers whose plan came to `answer`, and that began when the tally was `before`.
-pub fn tell<S: Store, A>(
+/// An answer or a refusal of a call that began when the tally was `before`, with the reads that it made.
+pub fn tell<S: Store, A, R>(
     store: &S,
     before: u64,
-    answer: Result<A, Refusal>,
-) -> Result<(A, u64), Refused>
-    ensures { result ≡ told before (bare answer, S.Store.meaning store.now) }
+    answer: Result<A, R>,
+) -> Result<(A, u64), Refused<R>>
+    ensures { result ≡ with_reads (rise before (S.Store.meaning store.now).tally) answer }
 {
     let reads = store.tally().wrapping_sub(before);
     match answer {

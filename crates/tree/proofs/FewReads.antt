@@ -3,12 +3,13 @@ use Rattle.std.proofs.Common.{ℕ, ◌-◌, ◌*◌, ◌^◌, ◌<◌, ◌≤◌
 use native.Mathlib.Nat.{pow-le-pow_right}
 use Rattle.std.proofs.lemmas.Bool.{cases_lt}
 use Rattle.store.specs.declared.fault.Fault.{Fault}
+use Rattle.tree.specs.declared.refusal.Refusal.{Refusal}
 use Rattle.tree.specs.declared.refusal.Refused.{Refused}
 use Rattle.tree.specs.SoundCalls.{Ends, carried}
 use Rattle.tree.specs.SoundCalls.Ends.{answered, refused}
 
 -- a call carries no more reads than it would make without marks
-pub carried_most : {A : Type 0} (mark : ℕ → Option Fault) (bs : List ℕ) (a : A) (r : Result (A × ℕ) Refused) → Ends mark bs a r → carried r ≤ length bs
+pub carried_most : {A : Type 0} (mark : ℕ → Option Fault) (bs : List ℕ) (a : A) (r : Result (A × ℕ) (Refused Refusal)) → Ends mark bs a r → carried r ≤ length bs
 carried_most mark bs a r (answered u e) = let h = ap carried e in omega arith
 carried_most mark bs a r (refused before b behind f p u k e) =
     let h = ap carried e in let l = ap length p ∙ length-append before (b ∷ behind) in omega arith

@@ -7,6 +7,7 @@
 --   reading c plan   the reading list: the blocks that the plan reads, in order, over the contents c if none is marked
 --   bare r           an answer of a call that has no buffer, as a plan's
 --   rise a b         how far a tally rose from a to b
+--   with_reads n r   an answer or a refusal that carries n reads
 --   told t out       what a call answers that began at tally t: a plan's answer with the reads made
 use Rattle.std.specs.Prelude.{ℕ, ◌+◌, ◌-◌, ◌%◌, ◌^◌, List, [], ◌∷◌, Some, None, Ok, Err, Option, Result}
 use Rattle.store.specs.declared.fault.Fault.{Fault}
@@ -51,6 +52,10 @@ bare (Err r) = Err (record { left = tt; why = r })
 abbrev pub rise : ℕ → ℕ → ℕ
 rise a b = (b + (2 ^ 64 - a)) % 2 ^ 64
 
-abbrev pub told : {A : Type 0} → ℕ → Outcome Unit A → Result (A × ℕ) Refused
+abbrev pub with_reads : {A R : Type 0} → ℕ → Result A R → Result (A × ℕ) (Refused R)
+with_reads n (Ok a) = Ok (a, n)
+with_reads n (Err r) = Err (record { refusal = r; reads = n })
+
+abbrev pub told : {A : Type 0} → ℕ → Outcome Unit A → Result (A × ℕ) (Refused Refusal)
 told t (Ok a, m) = Ok (a, rise t m.tally)
 told t (Err s, m) = Err (record { refusal = s.why; reads = rise t m.tally })

@@ -13,7 +13,8 @@ use Rattle.std.specs.Prelude.{ℕ, zero, suc, ◌-◌, Bool, true, false, cond, 
 use Rattle.keys.specs.Kind.{Kind}
 use Rattle.tree.specs.declared.head.Head.{Head}
 use Rattle.tree.specs.declared.rule.Rule.TheVariants.{Chain}
-use Rattle.tree.specs.declared.refusal.RangeRefused.{RangeRefused}
+use Rattle.tree.specs.declared.refusal.RangeRefusal.{RangeRefusal}
+use Rattle.tree.specs.declared.refusal.Refused.{Refused}
 use Rattle.tree.specs.declared.refusal.Refusal.TheVariants.{Broken, Crossed}
 use Rattle.tree.specs.Nodes.{Node, least}
 use Rattle.tree.specs.Plans.{Outcome, Plan, Stop, rise}
@@ -63,6 +64,6 @@ abbrev pub standing : {K : Type 0} → Result (List (K × ℕ) × Bool) (Stop (L
 standing (Ok a) = a.0
 standing (Err s) = s.left
 
-abbrev pub range_told : {K : Type 0} → ℕ → Outcome (List (K × ℕ)) (List (K × ℕ) × Bool) → Result ((ℕ × Bool) × ℕ) RangeRefused
+abbrev pub range_told : {K : Type 0} → ℕ → Outcome (List (K × ℕ)) (List (K × ℕ) × Bool) → Result ((ℕ × Bool) × ℕ) (Refused RangeRefusal)
 range_told t (Ok a, m) = Ok ((length a.0, a.1), rise t m.tally)
-range_told t (Err s, m) = Err (record { refusal = s.why; entries = length s.left; reads = rise t m.tally })
+range_told t (Err s, m) = Err (record { refusal = record { refusal = s.why; entries = length s.left }; reads = rise t m.tally })

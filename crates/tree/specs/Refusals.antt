@@ -3,10 +3,12 @@
 --   rule_number r   the number of a rule, 1 to 10
 --   numbered r      the number of a refusal, 1 to 11
 --   refusal_shown r the text of a refusal: its number, and what it carries
+--   before_entries r the refusal r of a range, before its first entry
 use Rattle.std.specs.Prelude.{ℕ, List, ◌++◌, codes, decimal}
 use Rattle.store.specs.Faults.{fault_shown}
 use Rattle.tree.specs.declared.rule.Rule.{Rule}
 use Rattle.tree.specs.declared.rule.Rule.TheVariants.{HeadNumbers, Tag, Count, Keys, Links, Bounds, MetOnce, Chain, FreeList, KeyCount}
+use Rattle.tree.specs.declared.refusal.RangeRefusal.{RangeRefusal}
 use Rattle.tree.specs.declared.refusal.Refusal.{Refusal}
 use Rattle.tree.specs.declared.refusal.Refusal.TheVariants.{Unfit, Crossed, ShortList, Unreadable, NoLetters, OtherVersion, OtherKind, Broken, KeyThere, KeyAbsent, NoRoom}
 
@@ -47,3 +49,6 @@ refusal_shown (Broken r b) = decimal 8 ++ (codes " rule=" ++ (decimal (rule_numb
 refusal_shown KeyThere = decimal 9
 refusal_shown KeyAbsent = decimal 10
 refusal_shown NoRoom = decimal 11
+
+abbrev pub before_entries : Refusal → RangeRefusal
+before_entries r = record { refusal = r; entries = 0 }

@@ -16,6 +16,7 @@ use Rattle.keys.specs.Kind.{Kind}
 use Rattle.std.specs.List.{AllByRecursion}
 use Rattle.store.specs.declared.fault.Fault.{Fault}
 use Rattle.store.specs.Meaning.{Meaning}
+use Rattle.tree.specs.declared.refusal.Refusal.{Refusal}
 use Rattle.tree.specs.declared.refusal.Refusal.TheVariants.{Unreadable}
 use Rattle.tree.specs.declared.refusal.Refused.{Refused}
 use Rattle.tree.specs.Calls.{count_plan, find_plan}
@@ -28,16 +29,16 @@ use Rattle.tree.specs.Trees.{trail}
 abbrev pub way : {K : Type 0} {κ : Kind K} {n size : ℕ} {c : ℕ → List ℕ} → Sound κ n size c → K → List ℕ
 way {K} {κ} S k = 0 ∷ trail κ S.height k S.tree
 
-pub data Ends {A : Type 0} (mark : ℕ → Option Fault) (bs : List ℕ) (a : A) (r : Result (A × ℕ) Refused) : Type 0 where
+pub data Ends {A : Type 0} (mark : ℕ → Option Fault) (bs : List ℕ) (a : A) (r : Result (A × ℕ) (Refused Refusal)) : Type 0 where
   answered : AllByRecursion (λ b. mark b ≡ None) bs → r ≡ Ok (a, length bs) → Ends mark bs a r
   refused : (before : List ℕ) (b : ℕ) (behind : List ℕ) (f : Fault) → bs ≡ before ++ b ∷ behind → AllByRecursion (λ x. mark x ≡ None) before → mark b ≡ Some f
       → r ≡ Err (record { refusal = Unreadable f; reads = length before + 1 }) → Ends mark bs a r
 
-abbrev pub carried : {A : Type 0} → Result (A × ℕ) Refused → ℕ
+abbrev pub carried : {A : Type 0} → Result (A × ℕ) (Refused Refusal) → ℕ
 carried (Ok a) = a.1
 carried (Err e) = e.reads
 
-pub record Finds {K : Type 0} {κ : Kind K} (m : Meaning) (S : Sound κ m.count m.size m.contents) (k : K) (r : Result (Option ℕ × ℕ) Refused) : Type 0 where
+pub record Finds {K : Type 0} {κ : Kind K} (m : Meaning) (S : Sound κ m.count m.size m.contents) (k : K) (r : Result (Option ℕ × ℕ) (Refused Refusal)) : Type 0 where
   pub reads : reading m.contents (find_plan κ m.count m.size k) ≡ way S k
   pub many : length (way S k) ≡ S.head.levels + 1
   pub ends : Ends m.mark (way S k) (lookup κ k (map_of S)) r
@@ -45,7 +46,7 @@ pub record Finds {K : Type 0} {κ : Kind K} (m : Meaning) (S : Sound κ m.count 
   pub shallow : 2 ≤ S.head.levels → 2 * (least_leaf S.head.order * least_kids S.head.order ^ (S.head.levels - 2)) ≤ length (map_of S)
   pub four : S.head.order ≡ 45 → length (map_of S) < 24334 → carried r ≤ 4
 
-pub record Counts {K : Type 0} {κ : Kind K} (m : Meaning) (S : Sound κ m.count m.size m.contents) (r : Result (ℕ × ℕ) Refused) : Type 0 where
+pub record Counts {K : Type 0} {κ : Kind K} (m : Meaning) (S : Sound κ m.count m.size m.contents) (r : Result (ℕ × ℕ) (Refused Refusal)) : Type 0 where
   pub reads : reading m.contents (count_plan κ m.count m.size) ≡ 0 ∷ []
   pub ends : Ends m.mark (0 ∷ []) (length (map_of S)) r
 

@@ -2,7 +2,7 @@
 
 ghost use Rattle.std.specs.Prelude.{◌≡◌, Some};
 ghost use Rattle.tree.specs.declared.refusal.Refusal.TheVariants.{Unreadable};
-ghost use Rattle.tree.specs.Refusals.{numbered, refusal_shown};
+ghost use Rattle.tree.specs.Refusals.{before_entries, numbered, refusal_shown};
 
 use crate::rule::Rule;
 use std::fmt;
@@ -77,17 +77,28 @@ impl fmt::Display for Refusal {
     }
 }
 
-/// A refusal, and the reads that were made before it.
+/// A refusal of a range, and how many entries stand in the buffer.
 #[derive(Clone, Copy, PartialEq, Eq, Debug)]
-pub struct Refused {
-    pub refusal: Refusal,
-    pub reads: u64,
-}
-
-/// A refusal of a range, with the entries that stand in the buffer and the reads that were made before it.
-#[derive(Clone, Copy, PartialEq, Eq, Debug)]
-pub struct RangeRefused {
+pub struct RangeRefusal {
     pub refusal: Refusal,
     pub entries: usize,
+}
+
+impl From<Refusal> for RangeRefusal {
+    ghost from_gives = { λ r s. s ≡ before_entries r };
+
+    /// A refusal before the first entry.
+    fn from(refusal: Refusal) -> RangeRefusal {
+        RangeRefusal {
+            refusal,
+            entries: 0,
+        }
+    }
+}
+
+/// Why a call was refused, and the reads that were made before it.
+#[derive(Clone, Copy, PartialEq, Eq, Debug)]
+pub struct Refused<R = Refusal> {
+    pub refusal: R,
     pub reads: u64,
 }

@@ -1,4 +1,4 @@
-use Rattle.std.proofs.Common.{◌+◌, ◌/◌, [], length, subst, ◌∙◌}
+use Rattle.std.proofs.Common.{◌+◌, ◌/◌, [], length, Err, ap, subst, ◌∙◌}
 use Rattle.keys.proofs.Comparing.{lt_less}
 use Rattle.index.proofs.RangeSteps.{nothing_yet, range_crossed, range_opens}
 use Rattle.index.proofs.Steps.{unfit}
@@ -8,13 +8,13 @@ use Rattle.index.specs.Rangings.{RangeEnd}
 pub returns-then-not-is_fit : goal.returns-then-not-is_fit
 returns-then-not-is_fit g c =
     let m = g.S.Store.meaning c.args.store.now in
-    nothing_yet g.K.Key.kind c.args.buffer.now m _ _ (unfit [] _ m c.count.result c.size-size.result c.count.ensures c.size-size.ensures c.if-not-is_fit.ensures)
+    nothing_yet g.K.Key.kind c.args.buffer.now m _ _ _ (ap Err c.into.ensures) (unfit [] _ m c.count.result c.size-size.result c.count.ensures c.size-size.ensures c.if-not-is_fit.ensures)
 
 pub returns-then-lt : goal.returns-then-lt
 returns-then-lt g c =
     let κ = g.K.Key.kind in
     let m = g.S.Store.meaning c.args.store.now in
-    nothing_yet κ c.args.buffer.now m _ _
+    nothing_yet κ c.args.buffer.now m _ _ _ (ap Err c.into-then-lt.ensures)
     (range_crossed κ c.args.lo.now c.args.hi.now (length c.args.buffer.now / (κ.width + 4)) m c.count.result c.size-size.result c.count.ensures c.size-size.ensures c.if-not-is_fit.ensures (c.if-lt.ensures ∙ lt_less κ g.met.K.Ord.matches_partial_cmp g.met.K.Key.ordered c.args.hi.now c.args.lo.now))
 
 pub returns : goal.returns
