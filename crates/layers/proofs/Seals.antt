@@ -1,7 +1,8 @@
 -- Blocks with their check numbers.
-use Rattle.std.proofs.Common.{◌≡◌, ℕ, ◌+◌, ◌-◌, ◌*◌, ◌/◌, ◌%◌, ◌≤◌, true, List, [], ◌∷◌, length, get_or, refl, ⊎_elim, arith, length-append, rules}
-use Rattle.std.proofs.lemmas.Bool.{cases_eq, eq-eqb, ne_eqb}
+use Rattle.std.proofs.Common.{◌≡◌, ℕ, ◌+◌, ◌-◌, ◌*◌, ◌/◌, ◌%◌, ◌≤◌, true, List, [], ◌∷◌, length, get_or, refl, arith, length-append, rules}
+use Rattle.std.proofs.lemmas.Bool.{eq-eqb}
 use Rattle.std.proofs.lemmas.List.{take_at, places}
+use Rattle.std.proofs.lemmas.Bool.Decides.{nat_tests}
 use Rattle.store.specs.Meaning.{Meaning, written}
 use Rattle.layers.specs.Checks.{check, check_number, sealed, holds}
 use Rattle.store.proofs.Meanings.{same_meaning}
@@ -18,13 +19,7 @@ sealed_holds xs b =
 -- a sealed block written below is a block written
 pub check_written : (m : Meaning) (t b : ℕ) (ys : List ℕ) → 3 ≤ m.size → length ys ≡ m.size - 2
     → check (written m b (sealed ys b)) t ≡ written (check m t) b ys
-check_written m t b ys h l = same_meaning _ _ refl refl
-    (λ k. ⊎_elim
-    (λ (q : k ≡ b). rw (q, eq-eqb b b refl, take_at ys (check_number ys b / 256 ∷ check_number ys b % 256 ∷ []) (m.size - 2) l))
-    (λ (q : k ≡ b → ⊥). rw (ne_eqb k b q))
-    (cases_eq k b))
-    (λ k. ⊎_elim
-    (λ (q : k ≡ b). rw (q, eq-eqb b b refl, sealed_holds ys b))
-    (λ (q : k ≡ b → ⊥). rw (ne_eqb k b q))
-    (cases_eq k b))
-    refl
+check_written m t b ys h l =
+    let e = take_at ys (check_number ys b / 256 ∷ check_number ys b % 256 ∷ []) (m.size - 2) l in
+    let v = sealed_holds ys b in
+    same_meaning _ _ refl refl (λ k. grind (arith, nat_tests)) (λ k. grind (arith, nat_tests)) refl

@@ -1,6 +1,6 @@
 -- Blocks of n bytes that lie one after another in a list.
 use Rattle.std.specs.Prelude.{◌≡◌, ℕ, zero, suc, ◌+◌, ◌-◌, ◌*◌, ◌<◌, ◌≤◌, cond, ◌≢◌, List, ◌++◌, length, take, drop, replicate, ◌==◌, refl}
-use Rattle.std.proofs.Common.{sym, ap, ◌∙◌, ⊎_elim, arith, suc-mul, zero-mul, rules, lit<, length-take, length-drop, length-append}
+use Rattle.std.proofs.Common.{sym, ap, ◌∙◌, ⊎_elim, arith, suc-mul, zero-mul, rules, length-take, length-drop, length-append}
 use Rattle.std.proofs.Math.Seq.{take-add}
 use Rattle.std.proofs.lemmas.List.{same_lists, places}
 use Rattle.std.proofs.lemmas.Bool.{cases_lt, cases_eq, eq-eqb, ne_eqb}
@@ -43,9 +43,11 @@ block_there k b n o xs ys ne f l = ⊎_elim
 pub blocks_overlaid : (c n b o : ℕ) (xs ys zs : List ℕ) → b < c → c * n ≤ length xs → o + length ys ≤ n
     → zs ≡ overlaid xs (b * n + o) ys
     → (k : ℕ) → take n (drop (k * n) zs) ≡ cond (k == b) (overlaid (take n (drop (b * n) xs)) o ys) (take n (drop (k * n) xs))
-blocks_overlaid c n b o xs ys zs h hx l p k = ap (λ (w : List ℕ). take n (drop (k * n) w)) p ∙ ⊎_elim
-    (λ (q : k ≡ b). let f = block_fits b c n (length xs) h hx in rw (q, eq-eqb b b refl, block_here b n o xs ys f l))
-    (λ (q : k ≡ b → ⊥). let f = block_fits b c n (length xs) h hx in rw (ne_eqb k b q, block_there k b n o xs ys q f l))
+blocks_overlaid c n b o xs ys zs h hx l p k =
+    let f = block_fits b c n (length xs) h hx in
+    ap (λ (w : List ℕ). take n (drop (k * n) w)) p ∙ ⊎_elim
+    (λ (q : k ≡ b). rw (q, eq-eqb b b refl, block_here b n o xs ys f l))
+    (λ (q : k ≡ b → ⊥). rw (ne_eqb k b q, block_there k b n o xs ys q f l))
     (cases_eq k b)
 
 -- the first j blocks, one after another, are the list's front
@@ -65,6 +67,4 @@ blocks_written c n b xs ys zs h hx l e k =
     ∙ ap (λ (w : List ℕ). cond (k == b) w (take n (drop (k * n) xs))) (overlaid_whole (take n (drop (b * n) xs)) ys (block_length b c n xs h hx ∙ sym l))
 
 pub zero_bytes : (n : ℕ) → Bytes (replicate n 0)
-zero_bytes zero k = lit< tt
-zero_bytes (suc n) zero = lit< tt
-zero_bytes (suc n) (suc k) = zero_bytes n k
+zero_bytes n k = grind (arith, places)

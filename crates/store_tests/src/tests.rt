@@ -127,3 +127,11 @@ fn the_bench_store_is_never_marked(rt: HostRuntime) {
     assert_eq!(rt; echo(&mut store, 63, &[2u8; 128], &mut page), Ok(()));
     assert_eq!(rt; page, [2u8; 128]);
 }
+
+#[test]
+fn a_fault_is_shown_by_its_cause_block_and_depth(rt: HostRuntime) -> Result<(), Fail> {
+    let fault = Fault::new(Cause::BadBlock, 70_000).raised();
+    let text = format!(in rt.alloc(); "{fault}")?;
+    assert_eq!(rt; text.as_str(), "cause=3 block=70000 depth=1");
+    Ok(())
+}
