@@ -15,7 +15,7 @@ ghost use Rattle.tree.specs.Ranges.{chase, follow, range_below, range_plan, rang
 use crate::leaf::reach_leaf;
 use crate::reading::{LONGEST, read_head, read_node};
 use keys::key::Key;
-use page::fields::u32_at;
+use page::fields::number_at;
 use page::gather::gather;
 use page::head::is_fit;
 use store::store::Store;
@@ -41,7 +41,7 @@ fn follow_leaves<S: Store, K: Key>(
         if let Some(more) = end {
             return (taken, Ok(more));
         }
-        let link = u32_at(page, 4);
+        let link = number_at::<4>(page, 4);
         if link == 0 {
             return (taken, Ok(false));
         }

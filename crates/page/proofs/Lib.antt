@@ -1,7 +1,6 @@
 pub mod HeadSeen
 pub mod RowSteps
 pub mod Seen
-pub mod Fills
 pub mod Scans
 pub mod GatherSteps
 pub mod Gathers

@@ -1,12 +1,11 @@
 -- Going through entries: one more, and the end.
-use Rattle.std.proofs.Common.{◌≡◌, ℕ, suc, ◌+◌, ◌-◌, ◌*◌, ◌^◌, ◌<◌, ◌≤◌, true, false, cond, List, length, get_or, take, drop, None, ap, ◌∙◌, arith, drop-drop}
+use Rattle.std.proofs.Common.{◌≡◌, ℕ, suc, ◌+◌, ◌-◌, ◌*◌, ◌<◌, ◌≤◌, true, false, cond, List, [], ◌∷◌, ◌++◌, length, take, drop, replicate, w32, None, refl, ap, ◌∙◌, arith, drop-drop, length-drop, length-take}
+use Rattle.std.specs.Int.{from_be_bytes}
 use Rattle.std.proofs.lemmas.Nat.{mul-le}
-use Rattle.std.proofs.lemmas.List.{drop_more}
 use Rattle.keys.specs.Bytes.{from_bytes}
 use Rattle.keys.specs.Kind.{Kind}
 use Rattle.page.specs.Rows.{kid_at, kid_by, kids_within, place_at, place_by, record_at, record_by, row}
 use Rattle.tree.specs.Entries.{key_of, number_of}
-use Rattle.tree.specs.Fields.{u32_at}
 use Rattle.tree.specs.Nodes.{is_block}
 
 -- one more row of e
@@ -19,21 +18,23 @@ row_fits i n e l h k = omega (arith, mul-le (i + 1) e n e (omega arith) (omega a
 pub drop_row : (i e : ℕ) (bs : List ℕ) → drop e (drop (i * e) bs) ≡ drop ((i + 1) * e) bs
 drop_row i e bs = drop-drop e (i * e) bs ∙ ap (λ (k : ℕ). drop k bs) (row_more i e)
 
--- four bytes as a number
-pub four : (xs : List ℕ) (at : ℕ) → at + 4 ≤ length xs → u32_at at xs ≡ get_or xs at 0 * 2 ^ 24 + get_or xs (at + 1) 0 * 2 ^ 16 + get_or xs (at + 2) 0 * 2 ^ 8 + get_or xs (at + 3) 0
-four xs at h =
-    let d0 = drop_more xs at 0 (omega arith) in
-    let d1 = drop_more xs (at + 1) 0 (omega arith) in
-    let d2 = drop_more xs (at + 2) 0 (omega arith) in
-    let d3 = drop_more xs (at + 3) 0 (omega arith) in
-    let e1 : at + 1 + 1 ≡ at + 2 = omega arith in
-    let e2 : at + 2 + 1 ≡ at + 3 = omega arith in
-    rw (d0, d1, e1, d2, e2, d3) (omega arith)
+-- n bytes behind zeros, four in all
+pub four_bytes : (n at : ℕ) (xs zs ds : List ℕ) → n ≤ 4 → at + n ≤ length xs → zs ≡ take (4 - n) (replicate 4 0) → ds ≡ take (at + n - at) (drop at xs)
+    → from_be_bytes w32 (zs ++ ds) ≡ from_bytes (take n (drop at xs))
+four_bytes n at xs zs ds h k a b =
+    let z : at + n - at ≡ n = omega arith in
+    let l : length (take n (drop at xs)) ≡ n = simp (length-take, length-drop) (omega arith) in
+    rw (a, b, z) (let go = by (take n (drop at xs)) (omega arith) in rw l at go)
+  where
+    by : (ds : List ℕ) → length ds ≤ 4 → from_be_bytes w32 (take (4 - length ds) (replicate 4 0) ++ ds) ≡ from_bytes ds
+    by [] h = refl
+    by (a ∷ []) h = omega arith
+    by (a ∷ b ∷ []) h = omega arith
+    by (a ∷ b ∷ c ∷ []) h = omega arith
+    by (a ∷ b ∷ c ∷ d ∷ []) h = omega arith
+    by (a ∷ b ∷ c ∷ d ∷ e ∷ ds) h = absurd (omega arith)
 
 module _ {K : Type 0} (κ : Kind K) (bs : List ℕ) where
-  pub number_row : (i : ℕ) → number_of κ (row κ i bs) ≡ u32_at (i * (κ.width + 4) + κ.width) bs
-  number_row i = ap (λ (xs : List ℕ). from_bytes (take 4 xs)) (drop-drop κ.width (i * (κ.width + 4)) bs)
-
   pub kids_more : (count n i : ℕ) → i < n → kids_within κ count (n - i) (row κ i bs) ≡ cond (is_block count (number_of κ (row κ i bs))) (kids_within κ count (n - (i + 1)) (row κ (i + 1) bs)) false
   unfolding kids_within
   kids_more count n i h =

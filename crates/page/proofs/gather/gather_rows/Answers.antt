@@ -4,8 +4,8 @@ use Rattle.page.proofs.GatherSteps.{gather_more, gather_all, gather_full, gather
 use Rattle.page.proofs.RowSteps.{row_fits}
 use Rattle.page.proofs.gather.gather_rows.Goals as goal
 
-pub key_at-requires : goal.key_at-requires
-key_at-requires g c = search (rules, row_fits)
+pub key-requires : goal.key-requires
+key-requires g c = search (rules, row_fits)
 
 pub returns-in_default : goal.returns-in_default
 returns-in_default g c = search (rules, gather_more)
@@ -21,7 +21,7 @@ returns-then-buffer-at g c = let h = lt_less g.K.Key.kind g.met.K.Ord.matches_pa
 
 pub overflow_add-from : goal.overflow_add-from
 overflow_add-from g c =
-    let f = part_fits c.loop-i.i c.args.n c.key_width-size.result g.K.Key.kind.width (length c.args.rows.now) c.key_width-size.ensures c.loop-i-test.true c.requires.rows in
+    let f = part_fits c.loop-i.i c.args.node.now.count c.key_width-size.result g.K.Key.kind.width (length c.args.node.now.rows.now) c.key_width-size.ensures c.loop-i-test.true c.args.node.now.whole in
     search rules
 
 pub slice_bounds-overlay-end : goal.slice_bounds-overlay-end
