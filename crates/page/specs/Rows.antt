@@ -1,6 +1,5 @@
 -- What the code finds in a node's bytes, entry by entry from the front.
 --
---   row κ i bs                    the entries from entry i on
 --   kids_within κ count n bs      whether the numbers of n entries are blocks of `count` past the head
 --   kid_at κ k b n bs             the child for k among n entries, where b is the child before them
 --   place_at κ k a n bs           how many of n entries are up to k, a more
@@ -8,7 +7,7 @@
 --   links_within κ count is_leaf b n bs   whether a node's link b and its n children keep rule 5
 --   links_fit κ count is_leaf bs  whether those of the node in a block do
 --   flaw_of s                     the rule that a block breaks
-use Rattle.std.specs.Prelude.{ℕ, zero, suc, ◌+◌, ◌*◌, Bool, true, false, cond, ◌&&◌, List, drop, Some, None, Option, nat_lt}
+use Rattle.std.specs.Prelude.{ℕ, zero, suc, ◌+◌, Bool, true, false, cond, ◌&&◌, List, drop, Some, None, Option, nat_lt}
 use Rattle.keys.specs.Kind.{Kind}
 use Rattle.tree.specs.Entries.{key_of, number_of, past}
 use Rattle.tree.specs.Fields.{u32_at, u8_at}
@@ -16,9 +15,6 @@ use Rattle.tree.specs.Nodes.{Seen, is_block}
 use Rattle.tree.specs.Nodes.Seen.{wrong, right}
 
 module _ {K : Type 0} (κ : Kind K) where
-  abbrev pub row : ℕ → List ℕ → List ℕ
-  row i bs = drop (i * (κ.width + 4)) bs
-
   unfoldable pub kids_within : ℕ → ℕ → List ℕ → Bool
   kids_within count zero bs = true
   kids_within count (suc n) bs = cond (is_block count (number_of κ bs)) (kids_within count n (past κ bs)) false

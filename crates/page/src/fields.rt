@@ -4,7 +4,7 @@ ghost use Rattle.std.specs.Prelude.{◌≡◌, ◌+◌, ◌≤◌, length, take,
 ghost use Rattle.keys.specs.Bytes.{big_endian, from_bytes};
 
 /// The number in the N bytes from a place on.
-#[tactic(auto, using(crate::proofs::RowSteps::four_bytes))]
+#[tactic(auto, using(crate::proofs::Numbers::four_bytes))]
 pub fn number_at<const N: usize>(bytes: &[u8], at: usize) -> u32
     requires short { N ≤ 4 }
     requires within { at + N ≤ length bytes.now }

@@ -6,7 +6,7 @@ ghost use Rattle.tree.specs.Fields.{u8_at};
 ghost use Rattle.tree.specs.Nodes.{Node, see_node};
 ghost use Rattle.tree.specs.Nodes.Seen.{right};
 
-use crate::rows::{NUMBER, NodeView};
+use crate::rows::{NUMBER, NodeView, entry_key};
 use keys::key::Key;
 use store::bytes::{are_bytes, overlay};
 
@@ -24,8 +24,8 @@ fn gather_rows<K: Key>(
 {
     let size = K::key_width() + NUMBER;
     let mut number = taken;
-    for i in 0..node.count {
-        let Some(k) = node.key(i) else {
+    for entry in node.entries() {
+        let Some(k) = entry_key::<K>(entry) else {
             return (number, None);
         };
         if k < *lo {
@@ -38,8 +38,7 @@ fn gather_rows<K: Key>(
         if buffer.len() - at < size {
             return (number, Some(true));
         }
-        let from = i * size;
-        overlay(buffer, at, &node.rows[from..from + size]);
+        overlay(buffer, at, entry);
         number += 1;
     }
     (number, None)

@@ -1,15 +1,18 @@
 //! A node's entries, one after another in its block, gone through from the front.
 
-ghost use Rattle.std.specs.Prelude.{◌≡◌, ◌+◌, ◌*◌, ◌≤◌, ◌<◌, length, drop};
-ghost use Rattle.page.specs.Rows.{kid_at, kids_within, place_at, record_at, row};
+ghost use Rattle.std.specs.Prelude.{◌≡◌, ◌+◌, ◌*◌, ◌≤◌, length, drop};
+ghost use Rattle.std.specs.Iterator.Adapters.{take_count, take_source};
+ghost use Rattle.std.specs.Slice.Iter.{chunks_exact_rest, chunks_exact_size};
+ghost use Rattle.page.specs.Rows.{kid_at, kids_within, place_at, record_at};
 ghost use Rattle.tree.specs.Entries.{key_of, number_of};
 ghost use Rattle.tree.specs.Fields.{u8_at, u32_at};
 
 use crate::fields::number_at;
 use crate::node::ENTRIES;
 use keys::key::Key;
-use keys::rows::rising;
+use std::iter::Take;
 use std::marker::PhantomData;
+use std::slice::ChunksExact;
 
 /// The bytes of an entry's number.
 pub const NUMBER: usize = 4;
@@ -41,31 +44,21 @@ impl<'a, K: Key> NodeView<'a, K> {
         }
     }
 
-    /// The key of entry i.
-    pub fn key(&self, i: usize) -> Option<K>
-        requires { i < self.now.count }
-        ensures { result ≡ key_of K.Key.kind (row K.Key.kind i self.now.rows.now) }
+    /// The bytes of each entry.
+    pub(crate) fn entries(&self) -> Take<ChunksExact<'a, u8>>
+        ensures size { chunks_exact_size (take_source result) ≡ K.Key.kind.width + 4 }
+        ensures count { take_count result ≡ self.now.count }
+        ensures rest { chunks_exact_rest (take_source result) ≡ self.now.rows.now }
     {
-        let width = K::key_width();
-        let at = i * (width + NUMBER);
-        K::read(&self.rows[at..at + width])
-    }
-
-    /// The number of entry i.
-    pub fn number(&self, i: usize) -> u32
-        requires { i < self.now.count }
-        ensures { result ≡ number_of K.Key.kind (row K.Key.kind i self.now.rows.now) }
-    {
-        let width = K::key_width();
-        number_at::<4>(self.rows, i * (width + NUMBER) + width)
+        self.rows.chunks_exact(K::key_width() + NUMBER).take(self.count)
     }
 
     /// Whether the numbers of the entries are blocks past the head.
     pub fn all_blocks(&self, count: u32) -> bool
         ensures { result ≡ kids_within K.Key.kind count self.now.count self.now.rows.now }
     {
-        for i in 0..self.count {
-            let block = self.number(i);
+        for entry in self.entries() {
+            let block = entry_number::<K>(entry);
             if block < 1 || block >= count {
                 return false;
             }
@@ -78,14 +71,14 @@ impl<'a, K: Key> NodeView<'a, K> {
         ensures { result ≡ kid_at K.Key.kind key.now self.now.link self.now.count self.now.rows.now }
     {
         let mut child = self.link;
-        for i in 0..self.count {
-            let Some(k) = self.key(i) else {
+        for entry in self.entries() {
+            let Some(k) = entry_key::<K>(entry) else {
                 return child;
             };
             if *key < k {
                 return child;
             }
-            child = self.number(i);
+            child = entry_number::<K>(entry);
         }
         child
     }
@@ -94,8 +87,8 @@ impl<'a, K: Key> NodeView<'a, K> {
     pub fn place(&self, key: &K) -> usize
         ensures { result ≡ place_at K.Key.kind key.now 0 self.now.count self.now.rows.now }
     {
-        for i in 0..self.count {
-            let Some(k) = self.key(i) else {
+        for (i, entry) in self.entries().enumerate() {
+            let Some(k) = entry_key::<K>(entry) else {
                 return i;
             };
             if *key < k {
@@ -109,12 +102,28 @@ impl<'a, K: Key> NodeView<'a, K> {
     pub fn record(&self, key: &K) -> Option<u32>
         ensures { result ≡ record_at K.Key.kind key.now self.now.count self.now.rows.now }
     {
-        for i in 0..self.count {
-            let k = self.key(i)?;
+        for entry in self.entries() {
+            let k = entry_key::<K>(entry)?;
             if k >= *key {
-                return if *key < k { None } else { Some(self.number(i)) };
+                return if *key < k { None } else { Some(entry_number::<K>(entry)) };
             }
         }
         None
     }
+}
+
+/// The key of an entry.
+pub(crate) fn entry_key<K: Key>(entry: &[u8]) -> Option<K>
+    requires { length entry.now ≡ K.Key.kind.width + 4 }
+    ensures { result ≡ key_of K.Key.kind entry.now }
+{
+    K::read(&entry[..K::key_width()])
+}
+
+/// The number of an entry.
+fn entry_number<K: Key>(entry: &[u8]) -> u32
+    requires { length entry.now ≡ K.Key.kind.width + 4 }
+    ensures { result ≡ number_of K.Key.kind entry.now }
+{
+    number_at::<4>(entry, K::key_width())
 }

@@ -1,6 +1,11 @@
-use Rattle.std.proofs.Common.{◌≡◌, ◌-◌}
-use Rattle.page.specs.Rows.{kids_within, row}
+use Rattle.std.proofs.Common.{◌≡◌}
+use Rattle.std.specs.Iterator.Adapters.{take_count}
+use Rattle.page.specs.Rows.{kids_within}
+use Rattle.page.proofs.Cuts.{Ready, left}
 use Rattle.page.proofs.rows.NodeView.all_blocks.Given as goal
 
-abbrev pub invariant-loop-i : goal.invariant-loop-i
-invariant-loop-i g l = let κ = g.K.Key.kind in kids_within κ l.count l.self.count l.self.rows.now ≡ kids_within κ l.count (l.self.count - l.i) (row κ l.i l.self.rows.now)
+abbrev pub invariant-loop-entry : goal.invariant-loop-entry
+invariant-loop-entry g l =
+    let κ = g.K.Key.kind in
+    let s = l.entry-iterator in
+    record { same : kids_within κ l.count l.self.count l.self.rows.now ≡ kids_within κ l.count (take_count s) (left s); ready : Ready κ s }

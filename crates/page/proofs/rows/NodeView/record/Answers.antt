@@ -1,29 +1,38 @@
 use Rattle.std.proofs.Common.{rules}
 use Rattle.keys.proofs.Comparing.{ge_less, lt_less}
-use Rattle.page.proofs.RowSteps.{row_fits, from_start, record_more, record_all}
-use Rattle.page.specs.Rows.{record_at}
+use Rattle.page.proofs.Cuts.{cut, cut_none, record_end, record_next}
 use Rattle.page.proofs.rows.NodeView.record.Goals as goal
 
-pub loop-i-init : goal.loop-i-init
-loop-i-init g c = from_start g.K.Key.kind c.args.self.now.rows.now (record_at g.K.Key.kind c.args.key.now) c.args.self.now.count
-
-pub key-requires : goal.key-requires
-key-requires g c = search (rules, row_fits)
-
 pub returns-in_err-k : goal.returns-in_err-k
-returns-in_err-k g c = search (rules, record_more, record_all, from_start)
+returns-in_err-k g c =
+    let x = cut g.K.Key.kind c.loop-entry.entry-iterator c.next.new.self c.in-Some.entry c.loop-entry.invariant.ready c.in-Some.ensures.steps in
+    let e = record_next g.K.Key.kind c.loop-entry.entry-iterator c.next.new.self c.in-Some.entry.now x c.args.key.now in
+    search rules
 
 pub returns-then-lt : goal.returns-then-lt
-returns-then-lt g c = let e = ge_less g.K.Key.kind g.met.K.Ord.matches_partial_cmp g.met.K.Key.ordered c.in_ok-k.k c.args.key.now in let h = lt_less g.K.Key.kind g.met.K.Ord.matches_partial_cmp g.met.K.Key.ordered c.args.key.now c.in_ok-k.k in search (rules, record_more, record_all, from_start)
-
-pub number-requires : goal.number-requires
-number-requires g c = search (rules, row_fits)
+returns-then-lt g c =
+    let x = cut g.K.Key.kind c.loop-entry.entry-iterator c.next.new.self c.in-Some.entry c.loop-entry.invariant.ready c.in-Some.ensures.steps in
+    let e = record_next g.K.Key.kind c.loop-entry.entry-iterator c.next.new.self c.in-Some.entry.now x c.args.key.now in
+    let f = ge_less g.K.Key.kind g.met.K.Ord.matches_partial_cmp g.met.K.Key.ordered c.in_ok-k.k c.args.key.now in
+    let h = lt_less g.K.Key.kind g.met.K.Ord.matches_partial_cmp g.met.K.Key.ordered c.args.key.now c.in_ok-k.k in
+    search rules
 
 pub returns-else-lt : goal.returns-else-lt
-returns-else-lt g c = let e = ge_less g.K.Key.kind g.met.K.Ord.matches_partial_cmp g.met.K.Key.ordered c.in_ok-k.k c.args.key.now in let h = lt_less g.K.Key.kind g.met.K.Ord.matches_partial_cmp g.met.K.Key.ordered c.args.key.now c.in_ok-k.k in search (rules, record_more, record_all, from_start)
+returns-else-lt g c =
+    let x = cut g.K.Key.kind c.loop-entry.entry-iterator c.next.new.self c.in-Some.entry c.loop-entry.invariant.ready c.in-Some.ensures.steps in
+    let e = record_next g.K.Key.kind c.loop-entry.entry-iterator c.next.new.self c.in-Some.entry.now x c.args.key.now in
+    let f = ge_less g.K.Key.kind g.met.K.Ord.matches_partial_cmp g.met.K.Key.ordered c.in_ok-k.k c.args.key.now in
+    let h = lt_less g.K.Key.kind g.met.K.Ord.matches_partial_cmp g.met.K.Key.ordered c.args.key.now c.in_ok-k.k in
+    search rules
 
-pub loop-i-preserved : goal.loop-i-preserved
-loop-i-preserved g c = let e = ge_less g.K.Key.kind g.met.K.Ord.matches_partial_cmp g.met.K.Key.ordered c.in_ok-k.k c.args.key.now in search (rules, record_more, record_all, from_start)
+pub loop-entry-preserved : goal.loop-entry-preserved
+loop-entry-preserved g c =
+    let x = cut g.K.Key.kind c.loop-entry.entry-iterator c.next.new.self c.in-Some.entry c.loop-entry.invariant.ready c.in-Some.ensures.steps in
+    let e = record_next g.K.Key.kind c.loop-entry.entry-iterator c.next.new.self c.in-Some.entry.now x c.args.key.now in
+    let f = ge_less g.K.Key.kind g.met.K.Ord.matches_partial_cmp g.met.K.Key.ordered c.in_ok-k.k c.args.key.now in
+    search rules
 
 pub returns : goal.returns
-returns g c = search (rules, record_more, record_all, from_start)
+returns g c =
+    let x = cut_none g.K.Key.kind c.loop-entry.entry-iterator c.next.new.self c.loop-entry.invariant.ready c.in-None.ensures.steps in
+    search (rules, record_end)
