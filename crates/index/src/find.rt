@@ -13,7 +13,7 @@ use crate::reading::{LONGEST, read_head};
 use crate::telling::tell;
 use keys::key::Key;
 use page::head::is_fit;
-use page::node::record;
+use page::rows::NodeView;
 use store::store::Store;
 use tree::refusal::{Refusal, Refused};
 
@@ -28,7 +28,7 @@ fn find_below<S: Store, K: Key>(
 {
     let head = read_head::<S, K>(store, page)?;
     reach_leaf::<S, K>(store, key, head.order, head.levels, head.root, page)?;
-    Ok(record(page, key))
+    Ok(NodeView::of(page).record(key))
 }
 
 /// The record of a key, by its plan alone.

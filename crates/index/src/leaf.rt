@@ -6,7 +6,7 @@ ghost use Rattle.tree.specs.Fields.{u8_at};
 
 use crate::reading::read_node;
 use keys::key::Key;
-use page::node::child;
+use page::rows::NodeView;
 use store::store::Store;
 use tree::refusal::Refusal;
 
@@ -28,7 +28,7 @@ pub(crate) fn reach_leaf<S: Store, K: Key>(
     let mut top = true;
     for _level in 1..levels {
         read_node::<S, K>(store, block, false, top, order, page)?;
-        block = child(page, key);
+        block = NodeView::of(page).child(key);
         top = false;
     }
     read_node::<S, K>(store, block, true, top, order, page)?;

@@ -16,7 +16,7 @@ use crate::leaf::reach_leaf;
 use crate::reading::{LONGEST, read_head, read_node};
 use crate::telling::tell;
 use keys::key::Key;
-use page::fields::u32_at;
+use page::fields::number_at;
 use page::gather::gather;
 use page::head::is_fit;
 use store::store::Store;
@@ -43,7 +43,7 @@ fn follow_leaves<S: Store, K: Key>(
         if let Some(more) = end {
             return Ok((taken, more));
         }
-        let link = u32_at(page, 4);
+        let link = number_at::<4>(page, 4);
         if link == 0 {
             return Ok((taken, false));
         }

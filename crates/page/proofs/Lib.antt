@@ -1,8 +1,8 @@
 pub mod HeadSeen
-pub mod RowSteps
+pub mod Numbers
 pub mod Seen
-pub mod Fills
 pub mod Scans
 pub mod GatherSteps
 pub mod Gathers
 pub mod Places
+pub mod Cuts

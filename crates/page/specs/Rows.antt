@@ -1,13 +1,13 @@
 -- What the code finds in a node's bytes, entry by entry from the front.
 --
---   row κ i bs                    the entries from entry i on
 --   kids_within κ count n bs      whether the numbers of n entries are blocks of `count` past the head
 --   kid_at κ k b n bs             the child for k among n entries, where b is the child before them
 --   place_at κ k a n bs           how many of n entries are up to k, a more
 --   record_at κ k n bs            the record of k among n entries
---   links_fit κ count is_leaf bs  whether a node's link and children keep rule 5
+--   links_within κ count is_leaf b n bs   whether a node's link b and its n children keep rule 5
+--   links_fit κ count is_leaf bs  whether those of the node in a block do
 --   flaw_of s                     the rule that a block breaks
-use Rattle.std.specs.Prelude.{ℕ, zero, suc, ◌+◌, ◌*◌, Bool, true, false, cond, ◌&&◌, List, drop, Some, None, Option, nat_lt}
+use Rattle.std.specs.Prelude.{ℕ, zero, suc, ◌+◌, Bool, true, false, cond, ◌&&◌, List, drop, Some, None, Option, nat_lt}
 use Rattle.keys.specs.Kind.{Kind}
 use Rattle.tree.specs.declared.rule.Rule.{Rule}
 use Rattle.tree.specs.Entries.{key_of, number_of, past}
@@ -16,9 +16,6 @@ use Rattle.tree.specs.Nodes.{Seen, is_block}
 use Rattle.tree.specs.Nodes.Seen.{wrong, right}
 
 module _ {K : Type 0} (κ : Kind K) where
-  abbrev pub row : ℕ → List ℕ → List ℕ
-  row i bs = drop (i * (κ.width + 4)) bs
-
   unfoldable pub kids_within : ℕ → ℕ → List ℕ → Bool
   kids_within count zero bs = true
   kids_within count (suc n) bs = cond (is_block count (number_of κ bs)) (kids_within count n (past κ bs)) false
@@ -47,9 +44,12 @@ module _ {K : Type 0} (κ : Kind K) where
   record_at k zero bs = None
   record_at k (suc n) bs = record_by k (number_of κ bs) (key_of κ bs) (record_at k n (past κ bs))
 
+  abbrev pub links_within : ℕ → Bool → ℕ → ℕ → List ℕ → Bool
+  links_within count true b n bs = nat_lt b count
+  links_within count false b n bs = is_block count b && kids_within count n bs
+
   abbrev pub links_fit : ℕ → Bool → List ℕ → Bool
-  links_fit count true bs = nat_lt (u32_at 4 bs) count
-  links_fit count false bs = is_block count (u32_at 4 bs) && kids_within count (u8_at 1 bs) (drop 8 bs)
+  links_fit count is_leaf bs = links_within count is_leaf (u32_at 4 bs) (u8_at 1 bs) (drop 8 bs)
 
 abbrev pub flaw_of : {A : Type 0} → Seen A → Option Rule
 flaw_of (wrong r) = Some r

@@ -1,40 +1,25 @@
-//! Numbers in the bytes of a block.
+//! Numbers in the bytes of a block, the highest byte first.
 
-ghost use Rattle.std.specs.Prelude.{◌≡◌, ◌+◌, ◌≤◌, length};
-ghost use Rattle.keys.specs.Bytes.{big_endian};
-ghost use Rattle.tree.specs.Fields.{u16_at, u32_at};
+ghost use Rattle.std.specs.Prelude.{◌≡◌, ◌+◌, ◌≤◌, length, take, drop};
+ghost use Rattle.keys.specs.Bytes.{big_endian, from_bytes};
 
-/// The number in two bytes.
-pub fn u16_at(bytes: &[u8], at: usize) -> u32
-    requires { at + 2 ≤ length bytes.now }
-    ensures { result ≡ u16_at at bytes.now }
+/// The number in the N bytes from a place on.
+#[tactic(auto, using(crate::proofs::Numbers::four_bytes))]
+pub fn number_at<const N: usize>(bytes: &[u8], at: usize) -> u32
+    requires short { N ≤ 4 }
+    requires within { at + N ≤ length bytes.now }
+    ensures { result ≡ from_bytes (take N (drop at bytes.now)) }
 {
-    u16::from_be_bytes([bytes[at], bytes[at + 1]]) as u32
+    let mut four = [0; 4];
+    let (_, low) = four.split_at_mut(4 - N);
+    low.copy_from_slice(&bytes[at..at + N]);
+    u32::from_be_bytes(four)
 }
 
-/// The number in four bytes.
-pub fn u32_at(bytes: &[u8], at: usize) -> u32
-    requires { at + 4 ≤ length bytes.now }
-    ensures { result ≡ u32_at at bytes.now }
+/// A number's lowest N bytes.
+pub fn number_bytes<const N: usize>(number: u32) -> [u8; N]
+    requires { N ≤ 4 }
+    ensures { result ≡ big_endian N number }
 {
-    u32::from_be_bytes([bytes[at], bytes[at + 1], bytes[at + 2], bytes[at + 3]])
-}
-
-/// A number in two bytes.
-pub fn u16_bytes(number: u32) -> [u8; 2]
-    ensures { result ≡ big_endian 2 number }
-{
-    [(number / 256 % 256) as u8, (number % 256) as u8]
-}
-
-/// A number in four bytes.
-pub fn u32_bytes(number: u32) -> [u8; 4]
-    ensures { result ≡ big_endian 4 number }
-{
-    [
-        (number / 256 / 256 / 256 % 256) as u8,
-        (number / 256 / 256 % 256) as u8,
-        (number / 256 % 256) as u8,
-        (number % 256) as u8,
-    ]
+    *number.to_be_bytes().last_chunk().unwrap()
 }

@@ -1,33 +1,27 @@
 //! Whole blocks written out: the head, a node, a free block.
 
-ghost use Rattle.std.specs.Prelude.{◌≡◌, ◌+◌, ◌≤◌, true, [], ◌∷◌, ◌++◌, length, replicate};
+ghost use Rattle.std.specs.Prelude.{◌≡◌, ◌+◌, ◌≤◌, true, [], ◌∷◌, ◌++◌, length};
 ghost use Rattle.keys.specs.Bytes.{big_endian};
+ghost use Rattle.page.specs.Tags.{byte_of};
 ghost use Rattle.tree.specs.Fields.{padded};
 ghost use Rattle.tree.specs.Heads.{write_head};
 ghost use Rattle.tree.specs.Nodes.{tag_of, write_free, write_node};
 
-use crate::fields::{u16_bytes, u32_bytes};
-use crate::node::{FREE, INNER, LEAF};
+use crate::fields::number_bytes;
+use crate::head::VERSION;
+use crate::node::ENTRIES;
+use crate::tag::Tag;
 use keys::key::Key;
-use store::bytes::overlay;
 use tree::head::Head;
-
-/// Makes all bytes of the page 0.
-fn clear(page: &mut [u8])
-    ensures { page.new ≡ replicate (length page.old) 0 }
-{
-    for i in 0..page.len() {
-        page[i] = 0;
-    }
-}
 
 /// Puts bytes at the front of the page, and zeros after them.
 fn put_front(page: &mut [u8], front: &[u8])
     requires { length front.now ≤ length page.old }
     ensures { page.new ≡ padded (length page.old) front.now }
 {
-    clear(page);
-    page[0..front.len()].copy_from_slice(front);
+    let (start, rest) = page.split_at_mut(front.len());
+    start.copy_from_slice(front);
+    rest.fill(0);
 }
 
 /// Fills the page with a head.
@@ -35,33 +29,28 @@ pub fn fill_head<K: Key>(page: &mut [u8], head: &Head)
     requires { 18 ≤ length page.old }
     ensures { page.new ≡ write_head K.Key.kind (length page.old) head.now }
 {
-    let root = u16_bytes(head.root);
-    let first_free = u16_bytes(head.first_free);
-    let free_count = u16_bytes(head.free_count);
-    let key_count = u32_bytes(head.key_count);
-    put_front(
-        page,
-        &[
-            b'P',
-            b'I',
-            b'X',
-            0,
-            1,
-            K::key_code(),
-            head.order,
-            head.levels,
-            root[0],
-            root[1],
-            first_free[0],
-            first_free[1],
-            free_count[0],
-            free_count[1],
-            key_count[0],
-            key_count[1],
-            key_count[2],
-            key_count[3],
-        ],
-    );
+    let mut front = [0; 18];
+    front[0..3].copy_from_slice(b"PIX");
+    front[3..5].copy_from_slice(&number_bytes::<2>(VERSION));
+    front[5] = K::key_code();
+    front[6] = head.order;
+    front[7] = head.levels;
+    front[8..10].copy_from_slice(&number_bytes::<2>(head.root));
+    front[10..12].copy_from_slice(&number_bytes::<2>(head.first_free));
+    front[12..14].copy_from_slice(&number_bytes::<2>(head.free_count));
+    front[14..18].copy_from_slice(&number_bytes::<4>(head.key_count));
+    put_front(page, &front);
+}
+
+/// Fills the page with a tag, a count, a link and the bytes of entries.
+fn put_block(page: &mut [u8], tag: Tag, count: u8, link: u32, entries: &[u8])
+    requires { 8 + length entries.now ≤ length page.old }
+    ensures { page.new ≡ padded (length page.old) (byte_of tag ∷ count ∷ 0 ∷ 0 ∷ (big_endian 4 link ++ entries.now)) }
+{
+    let [a, b, c, d] = number_bytes::<4>(link);
+    let (start, rest) = page.split_at_mut(ENTRIES);
+    start.copy_from_slice(&[tag.byte(), count, 0, 0, a, b, c, d]);
+    put_front(rest, entries);
 }
 
 /// Fills the page with a leaf of no entries and no next leaf.
@@ -69,14 +58,7 @@ pub fn fill_empty_leaf<K: Key>(page: &mut [u8])
     requires { 8 ≤ length page.old }
     ensures { page.new ≡ write_node K.Key.kind (length page.old) true (record { link = 0; entries = [] }) }
 {
-    put_front(page, &[LEAF, 0, 0, 0, 0, 0, 0, 0]);
-}
-
-/// The tag of a leaf or an inner node.
-fn tag(leaf: bool) -> u8
-    ensures { result ≡ tag_of leaf }
-{
-    if leaf { LEAF } else { INNER }
+    put_block(page, Tag::Leaf, 0, 0, &[]);
 }
 
 /// Fills the page with a node whose entries' bytes are given.
@@ -84,10 +66,7 @@ pub fn fill_node(page: &mut [u8], leaf: bool, count: u8, link: u32, entries: &[u
     requires { 8 + length entries.now ≤ length page.old }
     ensures { page.new ≡ padded (length page.old) (tag_of leaf ∷ count ∷ 0 ∷ 0 ∷ (big_endian 4 link ++ entries.now)) }
 {
-    let [a, b, c, d] = u32_bytes(link);
-    clear(page);
-    overlay(page, 0, &[tag(leaf), count, 0, 0, a, b, c, d]);
-    overlay(page, 8, entries);
+    put_block(page, Tag::of_node(leaf), count, link, entries);
 }
 
 /// Fills the page with a free block.
@@ -95,6 +74,5 @@ pub fn fill_free(page: &mut [u8], link: u32)
     requires { 8 ≤ length page.old }
     ensures { page.new ≡ write_free (length page.old) link }
 {
-    let link = u32_bytes(link);
-    put_front(page, &[FREE, 0, 0, 0, link[0], link[1], link[2], link[3]]);
+    put_block(page, Tag::Free, 0, link, &[]);
 }

@@ -6,29 +6,26 @@ ghost use Rattle.tree.specs.Fields.{u8_at};
 ghost use Rattle.tree.specs.Nodes.{Node, see_node};
 ghost use Rattle.tree.specs.Nodes.Seen.{right};
 
-use crate::node::ENTRIES;
-use crate::rows::{NUMBER, key_at};
+use crate::rows::{NUMBER, NodeView, entry_key};
 use keys::key::Key;
 use store::bytes::overlay;
 
-/// Copies those of n entries that are from `lo` to `hi`, until one does not fit.
+/// Copies the entries that are from `lo` to `hi`, until one does not fit.
 fn gather_rows<K: Key>(
-    rows: &[u8],
-    n: usize,
+    node: &NodeView<K>,
     lo: &K,
     hi: &K,
     buffer: &mut [u8],
     taken: usize,
 ) -> (usize, Option<bool>)
-    requires rows { n * (K.Key.kind.width + 4) ≤ length rows.now }
     requires fits { taken * (K.Key.kind.width + 4) ≤ length buffer.old }
-    ensures walked { (result.0, result.1, buffer.new) ≡ gather_on K.Key.kind lo.now hi.now n rows.now taken buffer.old }
+    ensures walked { (result.0, result.1, buffer.new) ≡ gather_on K.Key.kind lo.now hi.now node.now.count node.now.rows.now taken buffer.old }
     ensures within { result.0 * (K.Key.kind.width + 4) ≤ length buffer.new }
 {
     let size = K::key_width() + NUMBER;
     let mut number = taken;
-    for i in 0..n {
-        let Some(k) = key_at::<K>(rows, i) else {
+    for entry in node.entries() {
+        let Some(k) = entry_key::<K>(entry) else {
             return (number, None);
         };
         if k < *lo {
@@ -41,8 +38,7 @@ fn gather_rows<K: Key>(
         if buffer.len() - at < size {
             return (number, Some(true));
         }
-        let from = i * size;
-        overlay(buffer, at, &rows[from..from + size]);
+        overlay(buffer, at, entry);
         number += 1;
     }
     (number, None)
@@ -62,6 +58,5 @@ pub fn gather<K: Key>(
     ensures gathered { (n m low : ℕ) (d : Node K) → see_node K.Key.kind n m true low page.now ≡ right d → Gathered K.Key.kind lo.now hi.now d taken buffer.old result buffer.new }
     ensures within { result.0 * (K.Key.kind.width + 4) ≤ length buffer.new }
 {
-    let (_, rows) = page.split_at(ENTRIES);
-    gather_rows(rows, page[1] as usize, lo, hi, buffer, taken)
+    gather_rows(&NodeView::of(page), lo, hi, buffer, taken)
 }

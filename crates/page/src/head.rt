@@ -5,12 +5,15 @@ ghost use Rattle.tree.specs.Fields.{u8_at};
 ghost use Rattle.tree.specs.Heads.{has_letters, has_version, head_of, order_fits, rule_1, see_head};
 ghost use Rattle.tree.specs.Walks.{is_fit};
 
-use crate::fields::{u16_at, u32_at};
+use crate::fields::number_at;
 use crate::rows::NUMBER;
 use keys::key::Key;
 use tree::head::Head;
 use tree::refusal::Refusal;
 use tree::rule::Rule;
+
+/// The version of the format.
+pub(crate) const VERSION: u32 = 1;
 
 /// The head's numbers, whatever they are.
 fn head_of(page: &[u8]) -> Head
@@ -20,10 +23,10 @@ fn head_of(page: &[u8]) -> Head
     Head {
         order: page[6],
         levels: page[7],
-        root: u16_at(page, 8),
-        first_free: u16_at(page, 10),
-        free_count: u16_at(page, 12),
-        key_count: u32_at(page, 14),
+        root: number_at::<2>(page, 8),
+        first_free: number_at::<2>(page, 10),
+        free_count: number_at::<2>(page, 12),
+        key_count: number_at::<4>(page, 14),
     }
 }
 
@@ -31,14 +34,14 @@ fn has_letters(page: &[u8]) -> bool
     requires { 18 ≤ length page.now }
     ensures { result ≡ has_letters page.now }
 {
-    page[0] == b'P' && page[1] == b'I' && page[2] == b'X'
+    page.starts_with(b"PIX")
 }
 
 fn has_version(page: &[u8]) -> bool
     requires { 18 ≤ length page.now }
     ensures { result ≡ has_version page.now }
 {
-    page[3] == 0 && page[4] == 1
+    number_at::<2>(page, 3) == VERSION
 }
 
 fn has_code<K: Key>(page: &[u8]) -> bool

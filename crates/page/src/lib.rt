@@ -7,3 +7,4 @@ pub mod gather;
 pub mod head;
 pub mod node;
 pub mod rows;
+pub mod tag;

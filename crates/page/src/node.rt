@@ -2,25 +2,18 @@
 
 ghost use Rattle.std.specs.Prelude.{◌≡◌, ◌+◌, ◌*◌, ◌≤◌, ◌&&◌, length, drop, ◌==◌, nat_le};
 ghost use Rattle.keys.specs.Rows.{rows_rise};
-ghost use Rattle.page.specs.Rows.{flaw_of, kid_at, links_fit, place_at, record_at};
-ghost use Rattle.tree.specs.Fields.{u32_at, u8_at};
+ghost use Rattle.page.specs.Rows.{flaw_of, links_within};
+ghost use Rattle.tree.specs.Fields.{u8_at};
 ghost use Rattle.tree.specs.Nodes.{least, see_node, tag_of};
 
-use crate::fields::u32_at;
-use crate::rows::{NUMBER, all_blocks, child_for, place_for, record_of};
+use crate::rows::{NUMBER, NodeView};
+use crate::tag::Tag;
 use keys::key::Key;
 use keys::rows::rising;
 use tree::rule::Rule;
 
 /// Where the entries begin.
 pub const ENTRIES: usize = 8;
-/// The tags of a leaf, an inner node and a free block.
-pub(crate) const LEAF: u8 = 1;
-
-pub(crate) const INNER: u8 = 2;
-
-pub(crate) const FREE: u8 = 3;
-
 /// The least entries of a node.
 pub fn least_entries(order: u8, top: bool, leaf: bool) -> u8
     ensures { result ≡ least order top leaf }
@@ -28,8 +21,8 @@ pub fn least_entries(order: u8, top: bool, leaf: bool) -> u8
     match (top, leaf) {
         (true, true) => 0,
         (true, false) => 1,
-        (false, true) => ((order as u16 + 1) / 2) as u8,
-        (false, false) => ((order as u16 + 2) / 2 - 1) as u8,
+        (false, true) => order.div_ceil(2),
+        (false, false) => order / 2,
     }
 }
 
@@ -38,11 +31,7 @@ fn has_tag(page: &[u8], leaf: bool) -> bool
     requires { 8 ≤ length page.now }
     ensures { result ≡ (u8_at 0 page.now == tag_of leaf) }
 {
-    if leaf {
-        page[0] == LEAF
-    } else {
-        page[0] == INNER
-    }
+    page[0] == Tag::of_node(leaf).byte()
 }
 
 /// Rule 3: the count is within its bounds.
@@ -54,25 +43,20 @@ fn has_count(page: &[u8], low: u8, order: u8) -> bool
 }
 
 /// Rule 4: the keys can be read and rise strictly.
-fn has_keys<K: Key>(page: &[u8]) -> bool
-    requires { 8 ≤ length page.now }
-    ensures { result ≡ rows_rise K.Key.kind (K.Key.kind.width + 4) (u8_at 1 page.now) (drop 8 page.now) }
+fn has_keys<K: Key>(node: &NodeView<K>) -> bool
+    ensures { result ≡ rows_rise K.Key.kind (K.Key.kind.width + 4) node.now.count node.now.rows.now }
 {
-    let (_, rows) = page.split_at(ENTRIES);
-    rising::<K>(rows, K::key_width() + NUMBER, page[1] as usize)
+    rising::<K>(node.rows, K::key_width() + NUMBER, node.count)
 }
 
 /// Rule 5: a leaf's link, or an inner node's children, are blocks of the store.
-fn has_links<K: Key>(page: &[u8], leaf: bool, count: u32) -> bool
-    requires { 8 + u8_at 1 page.now * (K.Key.kind.width + 4) ≤ length page.now }
-    ensures { result ≡ links_fit K.Key.kind count leaf page.now }
+fn has_links<K: Key>(node: &NodeView<K>, leaf: bool, count: u32) -> bool
+    ensures { result ≡ links_within K.Key.kind count leaf node.now.link node.now.count node.now.rows.now }
 {
-    let link = u32_at(page, 4);
     if leaf {
-        return link < count;
+        return node.link < count;
     }
-    let (_, rows) = page.split_at(ENTRIES);
-    0 < link && link < count && all_blocks::<K>(rows, page[1] as usize, count)
+    0 < node.link && node.link < count && node.all_blocks(count)
 }
 
 /// The first of rules 2 to 5 that a block breaks.
@@ -86,38 +70,12 @@ pub fn flaw<K: Key>(page: &[u8], leaf: bool, low: u8, order: u8, count: u32) -> 
     if !has_count(page, low, order) {
         return Some(Rule::Count);
     }
-    if !has_keys::<K>(page) {
+    let node = NodeView::<K>::of(page);
+    if !has_keys(&node) {
         return Some(Rule::Keys);
     }
-    if !has_links::<K>(page, leaf, count) {
+    if !has_links(&node, leaf, count) {
         return Some(Rule::Links);
     }
     None
-}
-
-/// The child for a key.
-pub fn child<K: Key>(page: &[u8], key: &K) -> u32
-    requires { 8 + u8_at 1 page.now * (K.Key.kind.width + 4) ≤ length page.now }
-    ensures { result ≡ kid_at K.Key.kind key.now (u32_at 4 page.now) (u8_at 1 page.now) (drop 8 page.now) }
-{
-    let (_, rows) = page.split_at(ENTRIES);
-    child_for(rows, page[1] as usize, u32_at(page, 4), key)
-}
-
-/// How many entries are up to a key.
-pub fn place<K: Key>(page: &[u8], key: &K) -> usize
-    requires { 8 + u8_at 1 page.now * (K.Key.kind.width + 4) ≤ length page.now }
-    ensures { result ≡ place_at K.Key.kind key.now 0 (u8_at 1 page.now) (drop 8 page.now) }
-{
-    let (_, rows) = page.split_at(ENTRIES);
-    place_for(rows, page[1] as usize, key)
-}
-
-/// The record of a key.
-pub fn record<K: Key>(page: &[u8], key: &K) -> Option<u32>
-    requires { 8 + u8_at 1 page.now * (K.Key.kind.width + 4) ≤ length page.now }
-    ensures { result ≡ record_at K.Key.kind key.now (u8_at 1 page.now) (drop 8 page.now) }
-{
-    let (_, rows) = page.split_at(ENTRIES);
-    record_of(rows, page[1] as usize, key)
 }

@@ -1,97 +1,129 @@
-//! Entries one after another, gone through from the front.
+//! A node's entries, one after another in its block, gone through from the front.
 
-ghost use Rattle.std.specs.Prelude.{◌≡◌, ◌+◌, ◌*◌, ◌≤◌, length};
-ghost use Rattle.page.specs.Rows.{kid_at, kids_within, place_at, record_at, row};
+ghost use Rattle.std.specs.Prelude.{◌≡◌, ◌+◌, ◌*◌, ◌≤◌, length, drop};
+ghost use Rattle.std.specs.Iterator.Adapters.{take_count, take_source};
+ghost use Rattle.std.specs.Slice.Iter.{chunks_exact_rest, chunks_exact_size};
+ghost use Rattle.page.specs.Rows.{kid_at, kids_within, place_at, record_at};
 ghost use Rattle.tree.specs.Entries.{key_of, number_of};
+ghost use Rattle.tree.specs.Fields.{u8_at, u32_at};
 
-use crate::fields::u32_at;
+use crate::fields::number_at;
+use crate::node::ENTRIES;
 use keys::key::Key;
+use std::iter::Take;
+use std::marker::PhantomData;
+use std::slice::ChunksExact;
 
 /// The bytes of an entry's number.
 pub const NUMBER: usize = 4;
 
-/// The key of entry i.
-pub fn key_at<K: Key>(rows: &[u8], i: usize) -> Option<K>
-    requires { (i + 1) * (K.Key.kind.width + 4) ≤ length rows.now }
-    ensures { result ≡ key_of K.Key.kind (row K.Key.kind i rows.now) }
-{
-    let width = K::key_width();
-    let at = i * (width + NUMBER);
-    K::read(&rows[at..at + width])
+/// A node where it stands in a block: its link, how many entries it has, and the bytes of these and what follows.
+#[derive(Drop)]
+pub struct NodeView<'a, K: Key> {
+    pub(crate) link: u32,
+    pub(crate) count: usize,
+    pub(crate) rows: &'a [u8],
+    keys: PhantomData<K>,
+    ghost whole: { count * (K.Key.kind.width + 4) ≤ length rows.now },
 }
 
-/// The number of entry i.
-pub fn number_at<K: Key>(rows: &[u8], i: usize) -> u32
-    requires { (i + 1) * (K.Key.kind.width + 4) ≤ length rows.now }
-    ensures { result ≡ number_of K.Key.kind (row K.Key.kind i rows.now) }
-{
-    let width = K::key_width();
-    u32_at(rows, i * (width + NUMBER) + width)
-}
-
-/// Whether the numbers of n entries are blocks past the head.
-pub fn all_blocks<K: Key>(rows: &[u8], n: usize, count: u32) -> bool
-    requires { n * (K.Key.kind.width + 4) ≤ length rows.now }
-    ensures { result ≡ kids_within K.Key.kind count n rows.now }
-{
-    for i in 0..n {
-        let block = number_at::<K>(rows, i);
-        if block < 1 || block >= count {
-            return false;
+impl<'a, K: Key> NodeView<'a, K> {
+    /// The node in a block that has room for its entries.
+    pub fn of(page: &'a [u8]) -> NodeView<'a, K>
+        requires { 8 + u8_at 1 page.now * (K.Key.kind.width + 4) ≤ length page.now }
+        ensures link { result.link ≡ u32_at 4 page.now }
+        ensures count { result.count ≡ u8_at 1 page.now }
+        ensures rows { result.rows.now ≡ drop 8 page.now }
+    {
+        let (_, rows) = page.split_at(ENTRIES);
+        NodeView {
+            link: number_at::<4>(page, 4),
+            count: page[1] as usize,
+            rows,
+            keys: PhantomData,
         }
     }
-    true
-}
 
-/// The child for a key among n entries after a first child.
-pub fn child_for<K: Key>(rows: &[u8], n: usize, first: u32, key: &K) -> u32
-    requires { n * (K.Key.kind.width + 4) ≤ length rows.now }
-    ensures { result ≡ kid_at K.Key.kind key.now first n rows.now }
-{
-    let mut child = first;
-    for i in 0..n {
-        let Some(k) = key_at::<K>(rows, i) else {
-            return child;
-        };
-        if *key < k {
-            return child;
-        }
-        child = number_at::<K>(rows, i);
+    /// The bytes of each entry.
+    pub(crate) fn entries(&self) -> Take<ChunksExact<'a, u8>>
+        ensures size { chunks_exact_size (take_source result) ≡ K.Key.kind.width + 4 }
+        ensures count { take_count result ≡ self.now.count }
+        ensures rest { chunks_exact_rest (take_source result) ≡ self.now.rows.now }
+    {
+        self.rows.chunks_exact(K::key_width() + NUMBER).take(self.count)
     }
-    child
-}
 
-/// How many of n entries are up to a key.
-pub fn place_for<K: Key>(rows: &[u8], n: usize, key: &K) -> usize
-    requires { n * (K.Key.kind.width + 4) ≤ length rows.now }
-    ensures { result ≡ place_at K.Key.kind key.now 0 n rows.now }
-{
-    for i in 0..n {
-        let Some(k) = key_at::<K>(rows, i) else {
-            return i;
-        };
-        if *key < k {
-            return i;
-        }
-    }
-    n
-}
-
-/// The record of a key among n entries.
-pub fn record_of<K: Key>(rows: &[u8], n: usize, key: &K) -> Option<u32>
-    requires { n * (K.Key.kind.width + 4) ≤ length rows.now }
-    ensures { result ≡ record_at K.Key.kind key.now n rows.now }
-{
-    for i in 0..n {
-        let Some(k) = key_at::<K>(rows, i) else {
-            return None;
-        };
-        if k >= *key {
-            if *key < k {
-                return None;
+    /// Whether the numbers of the entries are blocks past the head.
+    pub fn all_blocks(&self, count: u32) -> bool
+        ensures { result ≡ kids_within K.Key.kind count self.now.count self.now.rows.now }
+    {
+        for entry in self.entries() {
+            let block = entry_number::<K>(entry);
+            if block < 1 || block >= count {
+                return false;
             }
-            return Some(number_at::<K>(rows, i));
         }
+        true
     }
-    None
+
+    /// The child for a key.
+    pub fn child(&self, key: &K) -> u32
+        ensures { result ≡ kid_at K.Key.kind key.now self.now.link self.now.count self.now.rows.now }
+    {
+        let mut child = self.link;
+        for entry in self.entries() {
+            let Some(k) = entry_key::<K>(entry) else {
+                return child;
+            };
+            if *key < k {
+                return child;
+            }
+            child = entry_number::<K>(entry);
+        }
+        child
+    }
+
+    /// How many entries are up to a key.
+    pub fn place(&self, key: &K) -> usize
+        ensures { result ≡ place_at K.Key.kind key.now 0 self.now.count self.now.rows.now }
+    {
+        for (i, entry) in self.entries().enumerate() {
+            let Some(k) = entry_key::<K>(entry) else {
+                return i;
+            };
+            if *key < k {
+                return i;
+            }
+        }
+        self.count
+    }
+
+    /// The record of a key.
+    pub fn record(&self, key: &K) -> Option<u32>
+        ensures { result ≡ record_at K.Key.kind key.now self.now.count self.now.rows.now }
+    {
+        for entry in self.entries() {
+            let k = entry_key::<K>(entry)?;
+            if k >= *key {
+                return if *key < k { None } else { Some(entry_number::<K>(entry)) };
+            }
+        }
+        None
+    }
+}
+
+/// The key of an entry.
+pub(crate) fn entry_key<K: Key>(entry: &[u8]) -> Option<K>
+    requires { length entry.now ≡ K.Key.kind.width + 4 }
+    ensures { result ≡ key_of K.Key.kind entry.now }
+{
+    K::read(&entry[..K::key_width()])
+}
+
+/// The number of an entry.
+fn entry_number<K: Key>(entry: &[u8]) -> u32
+    requires { length entry.now ≡ K.Key.kind.width + 4 }
+    ensures { result ≡ number_of K.Key.kind entry.now }
+{
+    number_at::<4>(entry, K::key_width())
 }

@@ -9,7 +9,8 @@ ghost use Rattle.update.specs.Spares.{spare_of};
 
 use crate::spare::Spare;
 use keys::key::Key;
-use page::fields::u32_at;
+use page::fields::number_at;
+use page::tag::Tag;
 use store::store::Store;
 use tree::refusal::Refusal;
 use tree::rule::Rule;
@@ -19,13 +20,13 @@ fn examine_free(page: &[u8], block: u32, count: u32) -> Result<u32, Refusal>
     requires { 8 ≤ length page.now }
     ensures { result ≡ free_answer None block (see_free count page.now) }
 {
-    if page[0] != 3 {
+    if page[0] != Tag::Free.byte() {
         return Err(Refusal::Broken(Rule::Tag, block));
     }
     if page[1] != 0 {
         return Err(Refusal::Broken(Rule::Count, block));
     }
-    let link = u32_at(page, 4);
+    let link = number_at::<4>(page, 4);
     if link >= count {
         return Err(Refusal::Broken(Rule::Links, block));
     }

@@ -13,7 +13,7 @@ ghost use Rattle.update.specs.Spares.{spare_of};
 use crate::batch::Batch;
 use crate::growth::Growth;
 use keys::key::Key;
-use page::fields::{u32_at, u32_bytes};
+use page::fields::number_bytes;
 use page::fill::fill_node;
 use page::rows::NUMBER;
 use store::bytes::overlay;
@@ -45,7 +45,7 @@ fn raise(entry: &mut [u8], key: &[u8], block: u32)
     ensures { entry.new ≡ key.now ++ big_endian 4 block }
 {
     overlay(entry, 0, key);
-    overlay(entry, key.len(), &u32_bytes(block));
+    overlay(entry, key.len(), &number_bytes::<4>(block));
 }
 
 /// A leaf of the entries in the row, or two where they are too many. Whether it was split, and then what goes up.

@@ -31,8 +31,8 @@ returns-in_err-read_node g c =
       count = ap (λ (x : Meaning). x.count) e.tallies ∙ c.loop-level.invariant.4;
     }
 
-pub child-block-requires : goal.child-block-requires
-child-block-requires g c =
+pub of-requires : goal.of-requires
+of-requires g c =
     let e = c.in_ok-read_node.ensures in
     let v = c.loop-level.invariant.1 in
     roomy g.K.Key.kind false (g.S.Store.meaning c.loop-level.store) c.loop-level.top c.args.order c.loop-level.block
@@ -52,7 +52,7 @@ loop-level-preserved g c =
       c.loop-level.invariant.0
           ∙ (inner_step g.K.Key.kind c.args.key.now (g.S.Store.meaning c.loop-level.store) c.loop-level.top c.args.order c.loop-level.block
           c.loop-level.page c.read_node.new.page (g.S.Store.meaning c.read_node.new.store) (Ok tt) (c.args.levels - c.loop-level._level)
-          e (omega arith) refl c.child-block.result c.child-block.ensures
+          e (omega arith) refl c.child-block.result (rw (c.of.ensures.link, c.of.ensures.count, c.of.ensures.rows) at c.child-block.ensures)
           ∙ ap (λ (h : ℕ). run (g.S.Store.meaning c.read_node.new.store) (leaf_from g.K.Key.kind (g.S.Store.meaning c.read_node.new.store).count c.args.order c.args.key.now h false c.child-block.result)) d),
       omega (arith, c.read_node.auto.page),
       omega arith,

@@ -31,7 +31,7 @@ returns-then-link-eq0 g c d l =
     let A = c.gather-number.ensures.gathered (g.S.Store.meaning c.args.store.now).count c.args.order G.leaf.low G.d G.leaf.seen in
     ends_last g.K.Key.kind c.args.lo.now c.args.hi.now c.args.order c.args.buffer.now g.met.K.Key.lawful
     _ _ (g.S.Store.meaning c.leaves.store) c.leaves.page c.leaves.buffer c.leaves.taken c.leaves.fuel G c.leaves.auto.buffer (omega (arith, c.leaves.invariant.3, c.leaves.auto.buffer))
-    c.gather-number.result c.gather-number.new.buffer A c.in_default.is c.u32_at-link.result c.u32_at-link.ensures c.if-link-eq0.true
+    c.gather-number.result c.gather-number.new.buffer A c.in_default.is c.number_at-link.result c.number_at-link.ensures c.if-link-eq0.true
 
 pub returns-then-fuel-eq0 : goal.returns-then-fuel-eq0
 returns-then-fuel-eq0 g c d l =
@@ -39,7 +39,7 @@ returns-then-fuel-eq0 g c d l =
     let A = c.gather-number.ensures.gathered (g.S.Store.meaning c.args.store.now).count c.args.order G.leaf.low G.d G.leaf.seen in
     goes_round g.K.Key.kind c.args.lo.now c.args.hi.now c.args.order c.args.buffer.now g.met.K.Key.lawful
     _ _ (g.S.Store.meaning c.leaves.store) c.leaves.page c.leaves.buffer c.leaves.taken c.leaves.fuel G c.leaves.auto.buffer (omega (arith, c.leaves.invariant.3, c.leaves.auto.buffer))
-    c.gather-number.result c.gather-number.new.buffer A c.in_default.is c.u32_at-link.result c.u32_at-link.ensures c.if-link-eq0.false c.if-fuel-eq0.true
+    c.gather-number.result c.gather-number.new.buffer A c.in_default.is c.number_at-link.result c.number_at-link.ensures c.if-link-eq0.false c.if-fuel-eq0.true
 
 pub returns-in-Err : goal.returns-in-Err
 returns-in-Err g c d l =
@@ -47,7 +47,7 @@ returns-in-Err g c d l =
     let A = c.gather-number.ensures.gathered (g.S.Store.meaning c.args.store.now).count c.args.order G.leaf.low G.d G.leaf.seen in
     next_stops g.K.Key.kind c.args.lo.now c.args.hi.now c.args.order c.args.buffer.now g.met.K.Key.lawful
     _ _ (g.S.Store.meaning c.leaves.store) c.leaves.page c.leaves.buffer c.leaves.taken c.leaves.fuel G c.leaves.auto.buffer (omega (arith, c.leaves.invariant.3, c.leaves.auto.buffer))
-    c.gather-number.result c.gather-number.new.buffer A c.in_default.is c.u32_at-link.result c.u32_at-link.ensures c.if-link-eq0.false (omega (arith, c.if-fuel-eq0.false)) (sym c.leaves.invariant.4)
+    c.gather-number.result c.gather-number.new.buffer A c.in_default.is c.number_at-link.result c.number_at-link.ensures c.if-link-eq0.false (omega (arith, c.if-fuel-eq0.false)) (sym c.leaves.invariant.4)
     c.read_node.new.page (g.S.Store.meaning c.read_node.new.store) (Err c.in-Err.refusal) c.in-Err.ensures c.in-Err.refusal refl
 
 pub leaves-preserved : goal.leaves-preserved
@@ -61,7 +61,7 @@ leaves-preserved g c =
     let fit = c.leaves.invariant.1 in (
       long ∙ sym size,
       omega arith,
-      roomy κ true m false c.args.order c.u32_at-link.result c.leaves.page c.read_node.new.page m' (Ok tt) e (κ.width + 4) fit long refl,
+      roomy κ true m false c.args.order c.number_at-link.result c.leaves.page c.read_node.new.page m' (Ok tt) e (κ.width + 4) fit long refl,
       c.gather-number.ensures.within,
       ap (λ (x : Meaning). x.count) e.tallies ∙ c.leaves.invariant.4,
       λ d l.
@@ -69,6 +69,6 @@ leaves-preserved g c =
           let A = c.gather-number.ensures.gathered (g.S.Store.meaning c.args.store.now).count c.args.order G.leaf.low G.d G.leaf.seen in
           next_goes κ c.args.lo.now c.args.hi.now c.args.order c.args.buffer.now g.met.K.Key.lawful
           _ _ m c.leaves.page c.leaves.buffer c.leaves.taken c.leaves.fuel G c.leaves.auto.buffer (omega (arith, c.leaves.invariant.3, c.leaves.auto.buffer))
-          c.gather-number.result c.gather-number.new.buffer A c.in_default.is c.u32_at-link.result c.u32_at-link.ensures c.if-link-eq0.false (omega (arith, c.if-fuel-eq0.false)) (sym c.leaves.invariant.4)
+          c.gather-number.result c.gather-number.new.buffer A c.in_default.is c.number_at-link.result c.number_at-link.ensures c.if-link-eq0.false (omega (arith, c.if-fuel-eq0.false)) (sym c.leaves.invariant.4)
           c.read_node.new.page m' (Ok tt) e refl,
     )

@@ -3,4 +3,4 @@ use Rattle.page.proofs.fill.fill_empty_leaf.Goals as goal
 
 pub returns : goal.returns
 unfolding write_entries
-returns g c = c.put_front.ensures
+returns g c = c.put_block.ensures

@@ -1,34 +1,46 @@
-use Rattle.std.proofs.Common.{length, rules}
+use Rattle.std.proofs.Common.{length, ◌∙◌, rules, arith}
 use Rattle.keys.proofs.Comparing.{lt_less}
-use Rattle.page.proofs.GatherSteps.{gather_more, gather_all, gather_full, gather_one, one_fits, part_fits}
-use Rattle.page.proofs.RowSteps.{row_fits}
+use Rattle.page.proofs.Cuts.{cut, cut_none}
+use Rattle.page.proofs.GatherSteps.{gather_end, gather_full, gather_next, gather_one, one_fits}
 use Rattle.page.proofs.gather.gather_rows.Goals as goal
 
-pub key_at-requires : goal.key_at-requires
-key_at-requires g c = search (rules, row_fits)
-
 pub returns-in_default : goal.returns-in_default
-returns-in_default g c = search (rules, gather_more)
-
-pub loop-i-preserved-then-lt : goal.loop-i-preserved-then-lt
-loop-i-preserved-then-lt g c = let h = lt_less g.K.Key.kind g.met.K.Ord.matches_partial_cmp g.met.K.Key.ordered c.in-Some.k c.args.lo.now in search (rules, gather_more)
-
-pub returns-then-lt-2 : goal.returns-then-lt-2
-returns-then-lt-2 g c = let h = lt_less g.K.Key.kind g.met.K.Ord.matches_partial_cmp g.met.K.Key.ordered c.in-Some.k c.args.lo.now in let e = lt_less g.K.Key.kind g.met.K.Ord.matches_partial_cmp g.met.K.Key.ordered c.args.hi.now c.in-Some.k in search (rules, gather_more)
-
-pub returns-then-buffer-at : goal.returns-then-buffer-at
-returns-then-buffer-at g c = let h = lt_less g.K.Key.kind g.met.K.Ord.matches_partial_cmp g.met.K.Key.ordered c.in-Some.k c.args.lo.now in let e = lt_less g.K.Key.kind g.met.K.Ord.matches_partial_cmp g.met.K.Key.ordered c.args.hi.now c.in-Some.k in search (rules, gather_full)
-
-pub overflow_add-from : goal.overflow_add-from
-overflow_add-from g c =
-    let f = part_fits c.loop-i.i c.args.n c.key_width-size.result g.K.Key.kind.width (length c.args.rows.now) c.key_width-size.ensures c.loop-i-test.true c.requires.rows in
+returns-in_default g c =
+    let x = cut g.K.Key.kind c.loop-entry.entry-iterator c.next.new.self c.in-Some.entry c.loop-entry.invariant.ready c.in-Some.ensures.steps in
+    let e = gather_next g.K.Key.kind c.args.lo.now c.args.hi.now c.loop-entry.entry-iterator c.next.new.self c.in-Some.entry.now x c.loop-entry.number c.loop-entry.buffer in
     search rules
 
-pub slice_bounds-overlay-end : goal.slice_bounds-overlay-end
-slice_bounds-overlay-end g c = search (rules, part_fits)
+pub loop-entry-preserved-then-lt : goal.loop-entry-preserved-then-lt
+loop-entry-preserved-then-lt g c =
+    let x = cut g.K.Key.kind c.loop-entry.entry-iterator c.next.new.self c.in-Some.entry c.loop-entry.invariant.ready c.in-Some.ensures.steps in
+    let e = gather_next g.K.Key.kind c.args.lo.now c.args.hi.now c.loop-entry.entry-iterator c.next.new.self c.in-Some.entry.now x c.loop-entry.number c.loop-entry.buffer in
+    let a = lt_less g.K.Key.kind g.met.K.Ord.matches_partial_cmp g.met.K.Key.ordered c.in-Some-entry_key.k c.args.lo.now in
+    search rules
 
-pub loop-i-preserved : goal.loop-i-preserved
-loop-i-preserved g c = let h = lt_less g.K.Key.kind g.met.K.Ord.matches_partial_cmp g.met.K.Key.ordered c.in-Some.k c.args.lo.now in let e = lt_less g.K.Key.kind g.met.K.Ord.matches_partial_cmp g.met.K.Key.ordered c.args.hi.now c.in-Some.k in search (rules, gather_one, one_fits)
+pub returns-then-lt-2 : goal.returns-then-lt-2
+returns-then-lt-2 g c =
+    let x = cut g.K.Key.kind c.loop-entry.entry-iterator c.next.new.self c.in-Some.entry c.loop-entry.invariant.ready c.in-Some.ensures.steps in
+    let e = gather_next g.K.Key.kind c.args.lo.now c.args.hi.now c.loop-entry.entry-iterator c.next.new.self c.in-Some.entry.now x c.loop-entry.number c.loop-entry.buffer in
+    let a = lt_less g.K.Key.kind g.met.K.Ord.matches_partial_cmp g.met.K.Key.ordered c.in-Some-entry_key.k c.args.lo.now in
+    let b = lt_less g.K.Key.kind g.met.K.Ord.matches_partial_cmp g.met.K.Key.ordered c.args.hi.now c.in-Some-entry_key.k in
+    search rules
+
+pub returns-then-buffer-at : goal.returns-then-buffer-at
+returns-then-buffer-at g c =
+    let x = cut g.K.Key.kind c.loop-entry.entry-iterator c.next.new.self c.in-Some.entry c.loop-entry.invariant.ready c.in-Some.ensures.steps in
+    let a = lt_less g.K.Key.kind g.met.K.Ord.matches_partial_cmp g.met.K.Key.ordered c.in-Some-entry_key.k c.args.lo.now in
+    let b = lt_less g.K.Key.kind g.met.K.Ord.matches_partial_cmp g.met.K.Key.ordered c.args.hi.now c.in-Some-entry_key.k in
+    let e = gather_full g.K.Key.kind c.args.lo.now c.args.hi.now c.loop-entry.entry-iterator c.next.new.self c.in-Some.entry.now x c.loop-entry.number c.loop-entry.buffer in
+    search rules
+
+pub loop-entry-preserved : goal.loop-entry-preserved
+loop-entry-preserved g c =
+    let x = cut g.K.Key.kind c.loop-entry.entry-iterator c.next.new.self c.in-Some.entry c.loop-entry.invariant.ready c.in-Some.ensures.steps in
+    let a = lt_less g.K.Key.kind g.met.K.Ord.matches_partial_cmp g.met.K.Key.ordered c.in-Some-entry_key.k c.args.lo.now in
+    let b = lt_less g.K.Key.kind g.met.K.Ord.matches_partial_cmp g.met.K.Key.ordered c.args.hi.now c.in-Some-entry_key.k in
+    record { same = c.loop-entry.invariant.same ∙ gather_one g.K.Key.kind c.args.lo.now c.args.hi.now c.loop-entry.entry-iterator c.next.new.self c.in-Some.entry.now x c.loop-entry.number c.loop-entry.buffer c.key_width-size.result c.overlay.new.slice c.in-Some-entry_key.k c.key_width-size.ensures c.in-Some-entry_key.ensures (c.if-lt.ensures ∙ a) (c.if-lt-2.ensures ∙ b) (omega arith) c.overlay.ensures; ready = x.ready; room = one_fits c.loop-entry.number c.key_width-size.result g.K.Key.kind.width (length c.loop-entry.buffer) (length c.overlay.new.slice) c.key_width-size.ensures c.loop-entry.invariant.room (omega arith) c.overlay.auto.slice }
 
 pub returns : goal.returns
-returns g c = search (rules, gather_all)
+returns g c =
+    let x = cut_none g.K.Key.kind c.loop-entry.entry-iterator c.next.new.self c.loop-entry.invariant.ready c.in-None.ensures.steps in
+    search (rules, gather_end)

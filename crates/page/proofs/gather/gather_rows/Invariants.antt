@@ -1,10 +1,15 @@
-use Rattle.std.proofs.Common.{◌≡◌, ◌+◌, ◌-◌, ◌*◌, ◌≤◌, length}
+use Rattle.std.proofs.Common.{◌≡◌, ◌+◌, ◌*◌, ◌≤◌, length}
+use Rattle.std.specs.Iterator.Adapters.{take_count}
 use Rattle.page.specs.Gathers.{gather_on}
-use Rattle.page.specs.Rows.{row}
+use Rattle.page.proofs.Cuts.{Ready, left}
 use Rattle.page.proofs.gather.gather_rows.Given as goal
 
-abbrev pub invariant-loop-i : goal.invariant-loop-i
-invariant-loop-i g l =
+abbrev pub invariant-loop-entry : goal.invariant-loop-entry
+invariant-loop-entry g l =
     let κ = g.K.Key.kind in
-    (gather_on κ l.lo l.hi l.n l.rows l.taken l.initial.buffer ≡ gather_on κ l.lo l.hi (l.n - l.i) (row κ l.i l.rows) l.number l.buffer)
-    × (l.number * (κ.width + 4) ≤ length l.buffer)
+    let s = l.entry-iterator in
+    record {
+      same : gather_on κ l.lo l.hi l.node.count l.node.rows.now l.taken l.initial.buffer ≡ gather_on κ l.lo l.hi (take_count s) (left s) l.number l.buffer;
+      ready : Ready κ s;
+      room : l.number * (κ.width + 4) ≤ length l.buffer;
+    }

@@ -11,8 +11,8 @@ returns-then-not-has_count g c = search (rules, flaw_is)
 pub returns-then-not-has_keys : goal.returns-then-not-has_keys
 returns-then-not-has_keys g c = search (rules, flaw_is)
 
-pub has_links-requires : goal.has_links-requires
-has_links-requires g c = count_fits c.args.low (get_or c.args.page.now 1 0) c.args.order (g.K.Key.kind.width + 4) (length c.args.page.now) c.if-not-has_count.ensures c.requires
+pub of-node-requires : goal.of-node-requires
+of-node-requires g c = count_fits c.args.low (get_or c.args.page.now 1 0) c.args.order (g.K.Key.kind.width + 4) (length c.args.page.now) c.if-not-has_count.ensures c.requires
 
 pub returns-then-not-has_links : goal.returns-then-not-has_links
 returns-then-not-has_links g c = search (rules, flaw_is)

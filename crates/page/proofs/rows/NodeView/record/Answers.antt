@@ -1,0 +1,38 @@
+use Rattle.std.proofs.Common.{rules}
+use Rattle.keys.proofs.Comparing.{ge_less, lt_less}
+use Rattle.page.proofs.Cuts.{cut, cut_none, record_end, record_next}
+use Rattle.page.proofs.rows.NodeView.record.Goals as goal
+
+pub returns-in_err-k : goal.returns-in_err-k
+returns-in_err-k g c =
+    let x = cut g.K.Key.kind c.loop-entry.entry-iterator c.next.new.self c.in-Some.entry c.loop-entry.invariant.ready c.in-Some.ensures.steps in
+    let e = record_next g.K.Key.kind c.loop-entry.entry-iterator c.next.new.self c.in-Some.entry.now x c.args.key.now in
+    search rules
+
+pub returns-then-lt : goal.returns-then-lt
+returns-then-lt g c =
+    let x = cut g.K.Key.kind c.loop-entry.entry-iterator c.next.new.self c.in-Some.entry c.loop-entry.invariant.ready c.in-Some.ensures.steps in
+    let e = record_next g.K.Key.kind c.loop-entry.entry-iterator c.next.new.self c.in-Some.entry.now x c.args.key.now in
+    let f = ge_less g.K.Key.kind g.met.K.Ord.matches_partial_cmp g.met.K.Key.ordered c.in_ok-k.k c.args.key.now in
+    let h = lt_less g.K.Key.kind g.met.K.Ord.matches_partial_cmp g.met.K.Key.ordered c.args.key.now c.in_ok-k.k in
+    search rules
+
+pub returns-else-lt : goal.returns-else-lt
+returns-else-lt g c =
+    let x = cut g.K.Key.kind c.loop-entry.entry-iterator c.next.new.self c.in-Some.entry c.loop-entry.invariant.ready c.in-Some.ensures.steps in
+    let e = record_next g.K.Key.kind c.loop-entry.entry-iterator c.next.new.self c.in-Some.entry.now x c.args.key.now in
+    let f = ge_less g.K.Key.kind g.met.K.Ord.matches_partial_cmp g.met.K.Key.ordered c.in_ok-k.k c.args.key.now in
+    let h = lt_less g.K.Key.kind g.met.K.Ord.matches_partial_cmp g.met.K.Key.ordered c.args.key.now c.in_ok-k.k in
+    search rules
+
+pub loop-entry-preserved : goal.loop-entry-preserved
+loop-entry-preserved g c =
+    let x = cut g.K.Key.kind c.loop-entry.entry-iterator c.next.new.self c.in-Some.entry c.loop-entry.invariant.ready c.in-Some.ensures.steps in
+    let e = record_next g.K.Key.kind c.loop-entry.entry-iterator c.next.new.self c.in-Some.entry.now x c.args.key.now in
+    let f = ge_less g.K.Key.kind g.met.K.Ord.matches_partial_cmp g.met.K.Key.ordered c.in_ok-k.k c.args.key.now in
+    search rules
+
+pub returns : goal.returns
+returns g c =
+    let x = cut_none g.K.Key.kind c.loop-entry.entry-iterator c.next.new.self c.loop-entry.invariant.ready c.in-None.ensures.steps in
+    search (rules, record_end)

@@ -1,6 +1,0 @@
-use Rattle.std.proofs.Common.{◌≡◌, ◌-◌}
-use Rattle.page.specs.Rows.{place_at, row}
-use Rattle.page.proofs.rows.place_for.Given as goal
-
-abbrev pub invariant-loop-i : goal.invariant-loop-i
-invariant-loop-i g l = let κ = g.K.Key.kind in place_at κ l.key 0 l.n l.rows ≡ place_at κ l.key l.i (l.n - l.i) (row κ l.i l.rows)
