@@ -18,7 +18,7 @@ pub(crate) const LEAF: u8 = 1;
 
 pub(crate) const INNER: u8 = 2;
 
-pub(crate) const FREE: u8 = 3;
+pub const FREE: u8 = 3;
 
 /// The least entries of a node.
 pub fn least_entries(order: u8, top: bool, leaf: bool) -> u8
