@@ -1,59 +1,53 @@
 //! Blocks to be written, gathered before the first write: the calls.
 
-ghost use Rattle.std.specs.Prelude.{◌≡◌, ℕ, ◌+◌, ◌<◌, ◌≤◌, [], ◌∷◌, take};
-ghost use Rattle.std.specs.List.{AllByRecursion};
-ghost use Rattle.tree.specs.Inserts.{put_all, repeated, stands};
-ghost use Rattle.update.specs.Batches.{first_writes, stacked};
+ghost use Rattle.std.specs.Prelude.{◌≡◌, ℕ, ◌+◌, ◌<◌, ◌≤◌, [], ◌∷◌, length, take, ◌==◌};
+ghost use Rattle.std.specs.List.{AllByRecursion, list_any};
+ghost use Rattle.tree.specs.Inserts.{put_all, repeated};
+ghost use Rattle.update.specs.Batches.{stacked};
 
-use crate::batch::Batch;
+use crate::LONGEST;
+use crate::batch::{Batch, Write};
+use arrayvec::ArrayVec;
 use store::store::Store;
+
+impl Write {
+    /// What a block of a size is to hold.
+    fn front(&self, size: usize) -> &[u8]
+        requires { size ≤ 512 }
+        ensures value { result.now ≡ take size self.now.page }
+        ensures len { length result.now ≡ size }
+    {
+        &self.page[..size]
+    }
+}
 
 impl Batch {
     /// No blocks.
     pub fn new() -> Batch
         ensures empty { (size : ℕ) → stacked result size ≡ [] }
-        ensures len { result.len ≡ 0 }
+        ensures len { length result ≡ 0 }
     {
         Batch {
-            pages: [[0; 512]; 24],
-            blocks: [0; 24],
-            len: 0,
+            writes: ArrayVec::new(),
         }
     }
 
     /// One block more, to be written before those that are there.
-    pub fn push(&mut self, block: u32, page: &[u8; 512])
-        requires { self.old.len < 24 }
+    pub fn push(&mut self, block: u32, page: &[u8; LONGEST])
+        requires { length self.old < 24 }
         ensures pushed { (size : ℕ) → stacked self.new size ≡ (block, take size page.now) ∷ stacked self.old size }
-        ensures len { self.new.len ≡ self.old.len + 1 }
+        ensures len { length self.new ≡ length self.old + 1 }
     {
-        let at = self.len;
-        self.pages[at] = *page;
-        self.blocks[at] = block;
-        self.len = at + 1;
-    }
-
-    /// Whether a block is among the first n.
-    fn stands(&self, n: usize, block: u32) -> bool
-        requires { n ≤ self.now.len }
-        ensures { (size : ℕ) → result ≡ stands block (first_writes self.now.blocks self.now.pages size n) }
-    {
-        for i in (0..n).rev() {
-            if self.blocks[i] == block {
-                return true;
-            }
-        }
-        false
+        self.writes.push(Write { block, page: *page });
     }
 
     /// A block that stands twice, if one does.
     pub fn repeated(&self) -> Option<u32>
         ensures { (size : ℕ) → result ≡ repeated (stacked self.now size) }
     {
-        for i in 0..self.len {
-            let block = self.blocks[i];
-            if self.stands(i, block) {
-                return Some(block);
+        for (i, write) in self.writes.iter().enumerate() {
+            if names(&self.writes[..i], write.block) {
+                return Some(write.block);
             }
         }
         None
@@ -65,8 +59,15 @@ impl Batch {
         ensures { S.Store.meaning store.new ≡ put_all (S.Store.meaning store.old) (stacked self.now (S.Store.meaning store.old).size) }
     {
         let size = store.size() as usize;
-        for i in (0..self.len).rev() {
-            let _ = store.write(self.blocks[i], &self.pages[i][0..size]);
+        for write in self.writes.iter().rev() {
+            let _ = store.write(write.block, write.front(size));
         }
     }
+}
+
+/// Whether a block is named in writes.
+fn names(writes: &[Write], block: u32) -> bool
+    ensures { result ≡ list_any (λ w. w.block == block) writes.now }
+{
+    writes.iter().any(|write| write.block == block)
 }
