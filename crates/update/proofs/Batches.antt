@@ -60,23 +60,20 @@ module _ (m : Meaning) (all : Writes) where
     pub size : now.size ≡ m.size
     pub inside : AllByRecursion (λ w. w.0 < m.count) (drop n all)
 
-  pub left_start : AllByRecursion (λ w. w.0 < m.count) all → Left 0 m
-  left_start a = record { rest = refl; count = refl; size = refl; inside = a }
+module _ {m : Meaning} {all : Writes} {n : ℕ} {now after : Meaning} {r : Result Unit Fault} {w : ℕ × List ℕ} (l : n < length all) (here : get_or all n w ≡ w)
+    (L : Left m all n now) (fits : length w.1 ≡ m.size) (made : Wrote now w.0 w.1 r after) where
+  more : drop n all ≡ w ∷ drop (suc n) all
+  more = drop-cons all n w l ∙ ap (λ (x : ℕ × List ℕ). x ∷ drop (suc n) all) here
 
-  module _ (n : ℕ) (now after : Meaning) (r : Result Unit Fault) (w : ℕ × List ℕ) (l : n < length all) (here : get_or all n w ≡ w) (L : Left n now)
-      (fits : length w.1 ≡ m.size) (made : Wrote now w.0 w.1 r after) where
-    more : drop n all ≡ w ∷ drop (suc n) all
-    more = drop-cons all n w l ∙ ap (λ (x : ℕ × List ℕ). x ∷ drop (suc n) all) here
-
-    pub left_next : Left (n + 1) after
-    left_next =
-        let a : AllByRecursion (λ w. w.0 < m.count) (w ∷ drop (suc n) all) = rw more at L.inside in
-        let none : misuse now w.0 (length w.1) ≡ None = rw (lt-ltb w.0 now.count (let q = L.count in let p = a.0 in omega arith), eq-eqb (length w.1) now.size (let q = L.size in omega arith)) in
-        let e : after ≡ written now w.0 w.1 = made.after ∙ rw none in
-        rw (add-one n)
-        (record {
-          rest = L.rest ∙ (rw more (ap (λ (x : Meaning). put_all x (drop (suc n) all)) (sym e)));
-          count = ap (λ (x : Meaning). x.count) e ∙ L.count;
-          size = ap (λ (x : Meaning). x.size) e ∙ L.size;
-          inside = a.1;
-        })
+  pub left_next : Left m all (n + 1) after
+  left_next =
+      let a : AllByRecursion (λ w. w.0 < m.count) (w ∷ drop (suc n) all) = rw more at L.inside in
+      let none : misuse now w.0 (length w.1) ≡ None = rw (lt-ltb w.0 now.count (let q = L.count in let p = a.0 in omega arith), eq-eqb (length w.1) now.size (let q = L.size in omega arith)) in
+      let e : after ≡ written now w.0 w.1 = made.after ∙ rw none in
+      rw (add-one n)
+      (record {
+        rest = L.rest ∙ (rw more (ap (λ (x : Meaning). put_all x (drop (suc n) all)) (sym e)));
+        count = ap (λ (x : Meaning). x.count) e ∙ L.count;
+        size = ap (λ (x : Meaning). x.size) e ∙ L.size;
+        inside = a.1;
+      })

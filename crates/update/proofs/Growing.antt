@@ -15,7 +15,7 @@ use Rattle.update.specs.declared.growth.Growth.{Growth}
 use Rattle.update.specs.Batches.{stacked}
 use Rattle.update.specs.Memory.{Sprung}
 
-module _ {K : Type 0} (κ : Kind K) (L : Lawful κ) where
+module _ {K : Type 0} {κ : Kind K} (L : Lawful κ) where
   -- the key in front of entries
   key_front : (e : K × ℕ) (es : List (K × ℕ)) → key_of κ (write_entries κ (e ∷ es)) ≡ Some e.0
   unfolding write_entries
@@ -39,7 +39,7 @@ module _ {K : Type 0} (κ : Kind K) (L : Lawful κ) where
         → grow_leaf κ n size m b link (low ++ (e ∷ high)) spare ≡ record { writes = split_writes low (e ∷ high); up = Some (e.0, new); spare = drop 1 spare }
     split_grown low high e h l = rw (lt-leb (length (low ++ (e ∷ high))) m l, ← h, take-append_seam low (e ∷ high), drop-append_seam low (e ∷ high))
 
-    module _ (a : Growth) (row front back : List ℕ) (up : Option (K × ℕ)) (spares : a.spare ≡ drop 1 spare)
+    module _ {a : Growth} {row front back : List ℕ} {up : Option (K × ℕ)} (spares : a.spare ≡ drop 1 spare)
         (cut_front : front ≡ take (left * (κ.width + 4)) row) (cut_back : back ≡ drop (left * (κ.width + 4)) row)
         (raised : up ≡ option_map (λ k. (k, new)) (key_of κ back)) where
       split_known : (low high : List (K × ℕ)) (e : K × ℕ) → length low ≡ left → m < length (low ++ (e ∷ high)) → row ≡ write_entries κ (low ++ (e ∷ high))

@@ -37,7 +37,7 @@ impl Spare {
         self.blocks.push(block);
     }
 
-    /// Takes the first block out; 0 where there is none.
+    /// Takes the first block out; 0 where there is none, as the plan of an insert has it.
     pub fn next(&mut self) -> u32
         ensures value { result ≡ slice_index self.old 0 }
         ensures after { self.new ≡ drop 1 self.old }

@@ -5,10 +5,7 @@ use Rattle.update.proofs.grow.grow_leaf.Goals as goal
 
 pub returns-clause-grown : goal.returns-clause-grown
 returns-clause-grown g c n es r l z =
-    let κ = g.K.Key.kind in
     let v = c.next-new.ensures.value in
     let up : c.map.result ≡ option_map (λ k. (k, c.next-new.result)) c.read.result = search (rules, tests) in
-    leaf_split κ g.met.K.Key.lawful n c.args.shape.now.size c.args.shape.now.order c.args.block c.args.link c.args.growth.now.spare
-    (record { batch = c.push_node-3.new.batch; spare = c.next-new.new.self; rest = c.args.growth.now.rest }) c.args.row.now.bytes.now c.split_at.result.0.bytes.now c.split_at.result.1.bytes.now c.map.result c.next-new.ensures.after
-    c.split_at.ensures.front c.split_at.ensures.back (up ∙ rw (v, c.read.ensures, c.key_width.ensures)) es (omega arith) c.args.shape.now.least r
+    leaf_split g.met.K.Key.lawful n c.args.shape.now.size c.args.shape.now.order c.args.block c.args.link c.args.growth.now.spare c.next-new.ensures.after c.split_at.ensures.front c.split_at.ensures.back (up ∙ rw (v, c.read.ensures, c.key_width.ensures)) es (omega arith) c.args.shape.now.least r
     (c.push_node-3.ensures.pushed ∙ rw (c.push_node-2.ensures.pushed, c.leaf-2.ensures, c.leaf-3.ensures, c.split_at.ensures.front_count, c.split_at.ensures.back_count, z, v, l))

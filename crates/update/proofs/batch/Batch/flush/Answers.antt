@@ -17,6 +17,6 @@ loop-write-preserved g c =
     let e : c.size-size.result ≡ m.size = c.size-size.ensures in
     let v : c.front.result.now ≡ take m.size w.now.page = c.front.ensures.value ∙ ap (λ k. take k w.now.page) e in
     rw (length_push c.loop-write.yielded w)
-    (left_next m (stacked ws m.size) n (g.S.Store.meaning c.loop-write.store) (g.S.Store.meaning c.write.new.self) c.write.result (cut m.size w.now) l
+    (left_next {all = stacked ws m.size} {r = c.write.result} {w = cut m.size w.now} l
     (get_or-map (cut m.size) (reverse ws) n w.now (cut m.size w.now) turn.0 ∙ ap (cut m.size) (sym turn.1)) c.loop-write.invariant
     (ap length (sym v) ∙ (c.front.ensures.len ∙ e)) (rw (← v) c.write.ensures))
