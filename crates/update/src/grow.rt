@@ -36,7 +36,7 @@ pub fn push_node(batch: &mut Batch, size: usize, block: u32, image: &Image)
     batch.push(block, &page);
 }
 
-/// A leaf of the entries in the row, or two where they are too many. What goes up, where it was split.
+/// A leaf of the entries in the row, or two where they are too many. Answers the key and the block that go up, where it was split.
 fn grow_leaf<K: Key>(
     growth: &mut Growth,
     shape: &Shape<K>,
@@ -59,5 +59,6 @@ fn grow_leaf<K: Key>(
     let (front, back) = row.split_at((shape.order as usize + 2) / 2);
     push_node(&mut growth.batch, shape.size, new, &back.leaf(link));
     push_node(&mut growth.batch, shape.size, block, &front.leaf(new));
+    // a row of entries begins with a key that can be read
     K::read(&back.bytes[..K::key_width()]).map(|key| (key, new))
 }
