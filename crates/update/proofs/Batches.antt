@@ -1,92 +1,79 @@
 -- Batches: one block more, and the writes made.
-use Rattle.std.proofs.Common.{◌≡◌, ℕ, zero, suc, ◌+◌, ◌-◌, ◌<◌, ◌≤◌, true, false, List, [], ◌∷◌, length, get_or, take, set, Some, None, Result, sym, refl, ap, ◌∙◌, add-one, arith, length-take, get_or-set_other, get_or-set_same}
-use Rattle.std.proofs.lemmas.Bool.{eq-eqb, lt-ltb, ne_eqb}
-use Rattle.std.specs.List.{AllByRecursion}
+use Rattle.std.proofs.Common.{◌≡◌, ℕ, suc, ◌+◌, ◌<◌, false, true, ◌||◌, List, [], ◌∷◌, ◌++◌, map, reverse, length, get_or, take, drop, Some, None, Result, sym, refl, ap, ◌∙◌, add-one, arith, ◌==◌}
+use Rattle.std.proofs.Math.Seq.{drop-cons, take-suc}
+use Rattle.std.proofs.lemmas.Bool.{eq-eqb, lt-ltb}
+use Rattle.std.proofs.lemmas.Bool.Decides.{nat_tests}
+use Rattle.std.proofs.lemmas.List.{map-append, reverse-append, take-append-drop}
+use Rattle.std.proofs.lemmas.List.Sorted.{IsPermutation-reverse, list_any-IsPermutation}
+use Rattle.std.specs.List.{AllByRecursion, list_any}
 use Rattle.store.specs.declared.fault.Fault.{Fault}
 use Rattle.store.specs.Calls.{Wrote, misuse}
 use Rattle.store.specs.Meaning.{Meaning, written}
-use Rattle.tree.specs.Inserts.{put_all, repeated, stands}
-use Rattle.update.specs.Batches.{first_writes}
+use Rattle.tree.specs.Inserts.{Writes, or_repeated, put_all, repeated, stands}
+use Rattle.update.specs.declared.batch.Write.{Write}
+use Rattle.update.specs.Batches.{cut, stacked}
 
--- a change past the first n leaves them
-first_set : (bs : List ℕ) (ps : List (List ℕ)) (s n i b : ℕ) (p : List ℕ) → n ≤ i → first_writes (set bs i b) (set ps i p) s n ≡ first_writes bs ps s n
-unfolding first_writes
-first_set bs ps s zero i b p h = refl
-first_set bs ps s (suc n) i b p h =
-    rw (first_set bs ps s n i b p (omega arith), get_or-set_other bs i n b 0 (λ e. omega arith), get_or-set_other ps i n p [] (λ e. omega arith))
+module _ (size : ℕ) where
+  -- a block is named in writes, in whatever order
+  stands_any : (b : ℕ) (ws : List Write) → stands b (map (cut size) ws) ≡ list_any (λ w. w.block == b) ws
+  stands_any b [] = refl
+  stands_any b (w ∷ ws) = rw (stands_any b ws) (ap (λ x. x || list_any (λ v. v.block == b) ws) (grind (arith, nat_tests)))
 
-pub first_push : (bs : List ℕ) (ps : List (List ℕ)) (s n b : ℕ) (p : List ℕ) → n < length bs → n < length ps
-    → first_writes (set bs n b) (set ps n p) s (n + 1) ≡ (b, take s p) ∷ first_writes bs ps s n
-unfolding first_writes
-first_push bs ps s n b p h k = rw (add-one n, first_set bs ps s n n b p (omega arith), get_or-set_same bs n b 0 h, get_or-set_same ps n p [] k)
+  stands_stacked : (b : ℕ) (ws : List Write) → stands b (stacked ws size) ≡ list_any (λ w. w.block == b) ws
+  stands_stacked b ws = stands_any b (reverse ws) ∙ sym (list_any-IsPermutation (λ w. w.block == b) ws (reverse ws) (IsPermutation-reverse ws))
 
-module _ (bs : List ℕ) (ps : List (List ℕ)) (size : ℕ) where
-  abbrev ws : ℕ → List (ℕ × List ℕ)
-  ws n = first_writes bs ps size n
+  stacked_append : (xs ys : List Write) → stacked (xs ++ ys) size ≡ stacked ys size ++ stacked xs size
+  stacked_append xs ys = ap (map (cut size)) (reverse-append xs ys) ∙ map-append (cut size) (reverse ys) (reverse xs)
 
-  pub stands_hit : (b n i : ℕ) → i < n → stands b (ws n) ≡ stands b (ws (i + 1)) → get_or bs i 0 ≡ b → true ≡ stands b (ws n)
-  unfolding first_writes
-  stands_hit b n i l e h = sym (e ∙ rw (add-one i, eq-eqb b (get_or bs i 0) (sym h)))
+  -- a block that stands twice does so too where more is written after it
+  repeated_on : (zs ws : Writes) (b : ℕ) → repeated ws ≡ Some b → repeated (zs ++ ws) ≡ Some b
+  unfolding repeated
+  repeated_on [] ws b h = h
+  repeated_on (z ∷ zs) ws b h = rw (repeated_on zs ws b h)
 
-  pub stands_on : (b n i : ℕ) → stands b (ws n) ≡ stands b (ws (i + 1)) → (get_or bs i 0 ≡ b → ⊥) → stands b (ws n) ≡ stands b (ws i)
-  unfolding first_writes
-  stands_on b n i e h = e ∙ rw (add-one i, ne_eqb b (get_or bs i 0) (λ q. h (sym q)))
+  module _ (ws : List Write) (i : ℕ) (w : Write) (l : i < length ws) (e : repeated (stacked (take i ws) size) ≡ None) where
+    abbrev here : Write
+    here = get_or ws i w
 
-  pub stands_none : (b n : ℕ) → stands b (ws n) ≡ stands b (ws 0) → false ≡ stands b (ws n)
-  unfolding first_writes
-  stands_none b n e = sym e
+    -- one write more
+    one_more : repeated (stacked (take (suc i) ws) size) ≡ or_repeated None (list_any (λ v. v.block == here.block) (take i ws)) here.block
+    unfolding repeated
+    one_more =
+        ap (λ (x : List Write). repeated (stacked x size)) (take-suc ws i w l)
+        ∙ (ap repeated (stacked_append (take i ws) (here ∷ [])) ∙ rw (e, stands_stacked here.block (take i ws)))
 
-  repeated_on : (b j : ℕ) (n : ℕ) → repeated (ws n) ≡ Some b → repeated (ws (n + j)) ≡ Some b
-  unfolding first_writes repeated
-  repeated_on b zero n h = let e : n + 0 ≡ n = omega arith in rw e h
-  repeated_on b (suc j) n h = let e : n + suc j ≡ suc (n + j) = omega arith in rw e (rw (repeated_on b j n h))
+    pub repeated_hit : true ≡ list_any (λ v. v.block == here.block) (take i ws) → Some here.block ≡ repeated (stacked ws size)
+    repeated_hit h =
+        let more = stacked_append (take (suc i) ws) (drop (suc i) ws) in
+        let all = ap (λ (x : List Write). stacked x size) (take-append-drop (suc i) ws) in
+        sym (ap repeated (sym all ∙ more) ∙ repeated_on (stacked (drop (suc i) ws) size) (stacked (take (suc i) ws) size) here.block (one_more ∙ rw (← h)))
 
-  pub repeated_hit : (n i : ℕ) → i < n → repeated (ws i) ≡ None → true ≡ stands (get_or bs i 0) (ws i) → Some (get_or bs i 0) ≡ repeated (ws n)
-  unfolding first_writes repeated
-  repeated_hit n i l e h =
-      let s : repeated (ws (suc i)) ≡ Some (get_or bs i 0) = rw (e, ← h) in
-      let z : suc i + (n - suc i) ≡ n = omega arith in
-      sym (rw z at (repeated_on (get_or bs i 0) (n - suc i) (suc i) s))
-
-  pub repeated_next : (i : ℕ) → repeated (ws i) ≡ None → false ≡ stands (get_or bs i 0) (ws i) → repeated (ws (i + 1)) ≡ None
-  unfolding first_writes repeated
-  repeated_next i e h = rw (add-one i, e, ← h)
-
-  pub repeated_start : repeated (ws 0) ≡ None
-  unfolding first_writes repeated
-  repeated_start = refl
+    pub repeated_next : false ≡ list_any (λ v. v.block == here.block) (take i ws) → repeated (stacked (take (i + 1) ws) size) ≡ None
+    repeated_next h = rw (add-one i) (one_more ∙ rw (← h))
 
 -- the writes made, from the newest on
-module _ (m : Meaning) (bs : List ℕ) (ps : List (List ℕ)) (len : ℕ) where
-  abbrev all : List (ℕ × List ℕ)
-  all = first_writes bs ps m.size len
-
-  -- what is left to write, with the first i to go
-  pub record Left (i : ℕ) (now : Meaning) : Type 0 where
-    pub rest : put_all m all ≡ put_all now (first_writes bs ps m.size i)
+module _ (m : Meaning) (all : Writes) where
+  -- what is left to write, once the first n are made
+  pub record Left (n : ℕ) (now : Meaning) : Type 0 where
+    pub rest : put_all m all ≡ put_all now (drop n all)
     pub count : now.count ≡ m.count
     pub size : now.size ≡ m.size
-    pub inside : AllByRecursion (λ w. w.0 < m.count) (first_writes bs ps m.size i)
+    pub inside : AllByRecursion (λ w. w.0 < m.count) (drop n all)
 
-  pub left_start : AllByRecursion (λ w. w.0 < m.count) all → Left len m
-  left_start a = record { rest = refl; count = refl; size = refl; inside = a }
+module _ {m : Meaning} {all : Writes} {n : ℕ} {now after : Meaning} {r : Result Unit Fault} {w : ℕ × List ℕ} (l : n < length all) (here : get_or all n w ≡ w)
+    (L : Left m all n now) (fits : length w.1 ≡ m.size) (made : Wrote now w.0 w.1 r after) where
+  more : drop n all ≡ w ∷ drop (suc n) all
+  more = drop-cons all n w l ∙ ap (λ (x : ℕ × List ℕ). x ∷ drop (suc n) all) here
 
-  pub left_done : (now : Meaning) → Left 0 now → now ≡ put_all m all
-  unfolding first_writes
-  left_done now l = sym l.rest
-
-  pub left_next : (i : ℕ) (now after : Meaning) (r : Result Unit Fault) (size : ℕ) → size ≡ m.size → m.size ≤ length (get_or ps i []) → Left (i + 1) now
-      → Wrote now (get_or bs i 0) (take (size - 0) (get_or ps i [])) r after → Left i after
-  unfolding first_writes
-  left_next i now after r size es fits l w =
-      let z : size - 0 ≡ m.size = omega arith in
-      let a : AllByRecursion (λ w. w.0 < m.count) (first_writes bs ps m.size (suc i)) = rw (add-one i) at l.inside in
-      let k : length (take m.size (get_or ps i [])) ≡ now.size = simp length-take (let q = l.size in omega arith) in
-      let none : misuse now (get_or bs i 0) (length (take (size - 0) (get_or ps i []))) ≡ None = rw (z, lt-ltb (get_or bs i 0) now.count (let q = l.count in let p = a.0 in omega arith), eq-eqb (length (take m.size (get_or ps i []))) now.size k) in
-      let e : after ≡ written now (get_or bs i 0) (take m.size (get_or ps i [])) = w.after ∙ (rw none (rw z)) in
-      record {
-        rest = l.rest ∙ (rw (add-one i) (ap (λ (x : Meaning). put_all x (first_writes bs ps m.size i)) (sym e)));
-        count = ap (λ (x : Meaning). x.count) e ∙ l.count;
-        size = ap (λ (x : Meaning). x.size) e ∙ l.size;
+  pub left_next : Left m all (n + 1) after
+  left_next =
+      let a : AllByRecursion (λ w. w.0 < m.count) (w ∷ drop (suc n) all) = rw more at L.inside in
+      let none : misuse now w.0 (length w.1) ≡ None = rw (lt-ltb w.0 now.count (let q = L.count in let p = a.0 in omega arith), eq-eqb (length w.1) now.size (let q = L.size in omega arith)) in
+      let e : after ≡ written now w.0 w.1 = made.after ∙ rw none in
+      rw (add-one n)
+      (record {
+        rest = L.rest ∙ (rw more (ap (λ (x : Meaning). put_all x (drop (suc n) all)) (sym e)));
+        count = ap (λ (x : Meaning). x.count) e ∙ L.count;
+        size = ap (λ (x : Meaning). x.size) e ∙ L.size;
         inside = a.1;
-      }
+      })

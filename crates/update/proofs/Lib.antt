@@ -1,4 +1,4 @@
-pub mod Batches
-pub mod Frees
-pub mod Growing
-pub mod RowBytes
+mod Batches
+mod Frees
+mod Growing
+mod RowBytes

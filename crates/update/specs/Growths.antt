@@ -8,9 +8,6 @@
 --                             `all` says whether all above it are full
 --   sprout κ n size h k v l top run all b    from block b, l levels above the leaves, down and up again
 --   finished κ size h s       what is written after that, the head among it
---   up-entry κ o r bs         an entry that goes up, in bytes: r says whether there is one
---   Sprung κ size g batch spare r bs     memory holds what grew: the writes, the blocks left, and what goes up
---   Sprouted                  the plan of sprout was run: the answer, memory and the store afterwards
 use Rattle.std.specs.Prelude.{ℕ, zero, suc, ◌+◌, Bool, true, false, ◌&&◌, length, nat_le}
 use Rattle.keys.specs.Kind.{Kind}
 use Rattle.tree.specs.declared.head.Head.{Head}

@@ -2,4 +2,3 @@ pub mod Batches
 pub mod Frees
 pub mod Growths
 pub mod Memory
-pub mod Spares

@@ -1,11 +1,10 @@
 //! Blocks of the free list, read and examined.
 
-ghost use Rattle.std.specs.Prelude.{◌≡◌, ℕ, ◌≤◌, length, None, Ok};
+ghost use Rattle.std.specs.Prelude.{◌≡◌, ℕ, ◌≤◌, [], length, None, Ok};
 ghost use Rattle.store.specs.Calls.{refusal};
 ghost use Rattle.store.specs.Meaning.{tallied};
 ghost use Rattle.tree.specs.Nodes.{see_free};
 ghost use Rattle.update.specs.Frees.{FreesRead, free_answer, frees_seen};
-ghost use Rattle.update.specs.Spares.{spare_of};
 
 use crate::spare::Spare;
 use keys::key::Key;
@@ -56,10 +55,10 @@ pub fn read_frees<S: Store, K: Key>(
     requires page { length page.old ≡ (S.Store.meaning store.old).size }
     requires size { 64 ≤ (S.Store.meaning store.old).size }
     requires few { need ≤ 12 }
-    requires empty { spare.old.len ≡ 0 }
-    ensures read { FreesRead K.Key.kind (S.Store.meaning store.old) need first result (spare_of spare.new) (S.Store.meaning store.new) }
-    ensures spare { spare_of spare.new ≡ frees_seen (S.Store.meaning store.old) need first }
-    ensures len { (rest : ℕ) → result ≡ Ok rest → spare.new.len ≡ need }
+    requires empty { spare.old ≡ [] }
+    ensures read { FreesRead K.Key.kind (S.Store.meaning store.old) need first result spare.new (S.Store.meaning store.new) }
+    ensures spare { spare.new ≡ frees_seen (S.Store.meaning store.old) need first }
+    ensures len { (rest : ℕ) → result ≡ Ok rest → length spare.new ≡ need }
 {
     let mut block = first;
     for _i in 0..need {

@@ -1,6 +1,6 @@
 //! Nodes that take one entry more, split where that is too many.
 
-ghost use Rattle.std.specs.Prelude.{◌≡◌, ℕ, ◌+◌, ◌*◌, ◌≤◌, List, [], ◌∷◌, ◌++◌, length};
+ghost use Rattle.std.specs.Prelude.{◌≡◌, ℕ, ◌+◌, ◌*◌, ◌≤◌, cond, List, [], ◌∷◌, ◌++◌, length, drop, nat_le};
 ghost use Rattle.keys.specs.Bytes.{big_endian};
 ghost use Rattle.tree.specs.Entries.{write_entries};
 ghost use Rattle.tree.specs.Fields.{padded};
@@ -8,87 +8,57 @@ ghost use Rattle.tree.specs.Inserts.{grow_leaf};
 ghost use Rattle.tree.specs.Nodes.{tag_of};
 ghost use Rattle.update.specs.Batches.{stacked};
 ghost use Rattle.update.specs.Memory.{Sprung};
-ghost use Rattle.update.specs.Spares.{spare_of};
 
+use crate::LONGEST;
 use crate::batch::Batch;
 use crate::growth::Growth;
+use crate::node::{Image, Shape};
+use crate::rows::Row;
 use keys::key::Key;
-use page::fields::number_bytes;
 use page::fill::fill_node;
-use page::rows::NUMBER;
-use store::bytes::overlay;
 
 /// A node to be written.
-pub fn push_node(
-    batch: &mut Batch,
-    size: usize,
-    block: u32,
-    leaf: bool,
-    count: u8,
-    link: u32,
-    entries: &[u8],
-)
-    requires fits { 8 + length entries.now ≤ size }
+pub fn push_node(batch: &mut Batch, size: usize, block: u32, image: &Image)
+    requires fits { 8 + length image.now.entries.now ≤ size }
     requires short { size ≤ 512 }
-    requires room { batch.old.len + 1 ≤ 24 }
-    ensures pushed { stacked batch.new size ≡ (block, padded size (tag_of leaf ∷ count ∷ 0 ∷ 0 ∷ (big_endian 4 link ++ entries.now))) ∷ stacked batch.old size }
-    ensures len { batch.new.len ≡ batch.old.len + 1 }
+    requires room { length batch.old + 1 ≤ 24 }
+    ensures pushed { stacked batch.new size ≡ (block, padded size (tag_of image.now.leaf ∷ image.now.count ∷ 0 ∷ 0 ∷ (big_endian 4 image.now.link ++ image.now.entries.now))) ∷ stacked batch.old size }
+    ensures len { length batch.new ≡ length batch.old + 1 }
 {
-    let mut page = [0u8; 512];
-    fill_node(&mut page[0..size], leaf, count, link, entries);
+    let mut page = [0; LONGEST];
+    fill_node(
+        &mut page[..size],
+        image.leaf,
+        image.count,
+        image.link,
+        image.entries,
+    );
     batch.push(block, &page);
 }
 
-/// Makes the entry one of a key, in bytes, and a block.
-fn raise(entry: &mut [u8], key: &[u8], block: u32)
-    requires { length key.now + 4 ≡ length entry.old }
-    ensures { entry.new ≡ key.now ++ big_endian 4 block }
-{
-    overlay(entry, 0, key);
-    overlay(entry, key.len(), &number_bytes::<4>(block));
-}
-
-/// A leaf of the entries in the row, or two where they are too many. Whether it was split, and then what goes up.
+/// A leaf of the entries in the row, or two where they are too many. Answers the key and the block that go up, where it was split.
 fn grow_leaf<K: Key>(
     growth: &mut Growth,
-    size: usize,
-    order: u8,
+    shape: &Shape<K>,
     block: u32,
     link: u32,
-    row: &[u8],
-    count: usize,
-    entry: &mut [u8],
-) -> bool
-    requires row { length row.now ≡ count * (K.Key.kind.width + 4) }
-    requires count { count ≤ order + 1 }
-    requires order { 3 ≤ order }
-    requires fits { 8 + order * (K.Key.kind.width + 4) ≤ size }
-    requires short { size ≤ 512 }
-    requires room { growth.old.batch.len + 2 ≤ 24 }
-    requires entry { length entry.old ≡ K.Key.kind.width + 4 }
-    ensures grown { (n : ℕ) (es : List (K × ℕ)) → row.now ≡ write_entries K.Key.kind es → length es ≡ count → stacked growth.old.batch size ≡ [] → Sprung K.Key.kind size (grow_leaf K.Key.kind n size order block link es (spare_of growth.old.spare)) growth.new result entry.new }
-    ensures len { growth.new.batch.len ≤ growth.old.batch.len + 2 }
+    row: &Row<K>,
+) -> Option<(K, u32)>
+    requires count { row.now.count ≤ shape.now.order + 1 }
+    requires room { length growth.old.batch + 2 ≤ 24 }
+    ensures grown { (n : ℕ) (es : List (K × ℕ)) → row.now.bytes.now ≡ write_entries K.Key.kind es → length es ≡ row.now.count → stacked growth.old.batch shape.now.size ≡ [] → Sprung shape.now.size (grow_leaf K.Key.kind n shape.now.size shape.now.order block link es growth.old.spare) growth.new result }
+    ensures len { length growth.new.batch ≤ length growth.old.batch + 2 }
     ensures rest { growth.new.rest ≡ growth.old.rest }
-    ensures need { growth.new.spare.len ≡ growth.old.spare.len }
+    ensures spare { growth.new.spare ≡ cond (nat_le row.now.count shape.now.order) growth.old.spare (drop 1 growth.old.spare) }
 {
-    if count <= order as usize {
-        push_node(&mut growth.batch, size, block, true, count as u8, link, row);
-        return false;
+    if row.count <= shape.order as usize {
+        push_node(&mut growth.batch, shape.size, block, &row.leaf(link));
+        return None;
     }
-    let width = K::key_width();
-    let left = (order as usize + 2) / 2;
     let new = growth.spare.next();
-    let (front, back) = row.split_at(left * (width + NUMBER));
-    push_node(
-        &mut growth.batch,
-        size,
-        new,
-        true,
-        (count - left) as u8,
-        link,
-        back,
-    );
-    push_node(&mut growth.batch, size, block, true, left as u8, new, front);
-    raise(entry, &back[0..width], new);
-    true
+    let (front, back) = row.split_at((shape.order as usize + 2) / 2);
+    push_node(&mut growth.batch, shape.size, new, &back.leaf(link));
+    push_node(&mut growth.batch, shape.size, block, &front.leaf(new));
+    // a row of entries begins with a key that can be read
+    K::read(&back.bytes[..K::key_width()]).map(|key| (key, new))
 }

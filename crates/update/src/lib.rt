@@ -5,5 +5,9 @@ pub mod batch;
 pub mod free;
 pub mod grow;
 pub mod growth;
+pub mod node;
 pub mod rows;
 pub mod spare;
+
+/// The most bytes that a block has.
+pub const LONGEST: usize = 512;

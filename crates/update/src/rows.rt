@@ -1,8 +1,59 @@
-//! Rows of entries put together in memory.
+//! Rows of entries in memory.
 
-ghost use Rattle.std.specs.Prelude.{◌≡◌, ◌+◌, ◌++◌, length};
+ghost use Rattle.std.specs.Prelude.{◌≡◌, ◌+◌, ◌-◌, ◌*◌, ◌≤◌, true, ◌++◌, length, take, drop};
 
+use crate::node::Image;
+use keys::key::Key;
+use page::rows::NUMBER;
+use std::marker::PhantomData;
 use store::bytes::overlay;
+
+/// Entries of a node, one after another in bytes.
+#[derive(Drop)]
+pub struct Row<'a, K: Key> {
+    pub bytes: &'a [u8],
+    pub count: usize,
+    pub kind: PhantomData<K>,
+    ghost whole: { length bytes.now ≡ count * (K.Key.kind.width + 4) },
+}
+
+impl<'a, K: Key> Row<'a, K> {
+    /// The entries as a leaf's.
+    pub(crate) fn leaf(&self, link: u32) -> Image<'a>
+        requires { self.now.count ≤ 255 }
+        ensures { result ≡ record { leaf = true; count = self.now.count; link = link; entries = self.now.bytes } }
+    {
+        Image {
+            leaf: true,
+            count: self.count as u8,
+            link,
+            entries: self.bytes,
+        }
+    }
+
+    /// The first entries, and the others.
+    pub(crate) fn split_at(&self, count: usize) -> (Row<'a, K>, Row<'a, K>)
+        requires { count ≤ self.now.count }
+        ensures front { result.0.bytes.now ≡ take (count * (K.Key.kind.width + 4)) self.now.bytes.now }
+        ensures back { result.1.bytes.now ≡ drop (count * (K.Key.kind.width + 4)) self.now.bytes.now }
+        ensures front_count { result.0.count ≡ count }
+        ensures back_count { result.1.count ≡ self.now.count - count }
+    {
+        let (front, back) = self.bytes.split_at(count * (K::key_width() + NUMBER));
+        (
+            Row {
+                bytes: front,
+                count,
+                kind: PhantomData,
+            },
+            Row {
+                bytes: back,
+                count: self.count - count,
+                kind: PhantomData,
+            },
+        )
+    }
+}
 
 /// Fills the row with three parts, one after another.
 pub fn join(row: &mut [u8], front: &[u8], middle: &[u8], back: &[u8])

@@ -1,25 +1,22 @@
-use Rattle.std.proofs.Common.{◌≡◌, ℕ, ◌+◌, ◌-◌, [], length, get_or, subst, arith, rules}
-use Rattle.update.proofs.Batches.{Left, left_done, left_next, left_start}
+use Rattle.std.proofs.Common.{◌≡◌, ◌<◌, length, take, reverse, subst, sym, ap, ◌∙◌}
+use Rattle.std.proofs.lemmas.Iterator.Adapters.{YieldsList-from_rev_slice}
+use Rattle.std.proofs.lemmas.Iterator.Consumers.{YieldsList-turn}
+use Rattle.std.proofs.lemmas.List.{get_or-map, length-map, length_push}
+use Rattle.update.proofs.Batches.{left_next}
 use Rattle.update.proofs.batch.Batch.flush.Goals as goal
+use Rattle.update.specs.Batches.{cut, stacked}
 
-pub loop-i-init : goal.loop-i-init
-loop-i-init g c = left_start (g.S.Store.meaning c.args.store.now) c.args.self.now.blocks c.args.self.now.pages c.args.self.now.len c.requires
-
-pub loop-i-preserved : goal.loop-i-preserved
-loop-i-preserved g c =
+pub loop-write-preserved : goal.loop-write-preserved
+loop-write-preserved g c =
     let m = g.S.Store.meaning c.args.store.now in
-    let s = c.args.self.now in
-    let i = c.loop-i.i in
-    let e : i ≡ (i - 1) + 1 = omega arith in
-    let l : length (get_or s.pages (i - 1) []) ≡ 512 = search rules in
-    let few = (g.met.S.Store.limits c.args.store.now).short in
-    left_next m s.blocks s.pages s.len (i - 1) (g.S.Store.meaning c.loop-i.store) (g.S.Store.meaning c.write.new.self) c.write.result c.size-size.result c.size-size.ensures (omega arith)
-    (subst (λ (x : ℕ). Left m s.blocks s.pages s.len x (g.S.Store.meaning c.loop-i.store)) e c.loop-i.invariant) c.write.ensures
-
-pub returns : goal.returns
-returns g c =
-    let m = g.S.Store.meaning c.args.store.now in
-    let s = c.args.self.now in
-    let e : c.loop-i.i ≡ 0 = omega arith in
-    left_done m s.blocks s.pages s.len (g.S.Store.meaning c.loop-i.store)
-    (subst (λ (x : ℕ). Left m s.blocks s.pages s.len x (g.S.Store.meaning c.loop-i.store)) e c.loop-i.invariant)
+    let ws = c.args.self.now in
+    let w = c.in-Some.write in
+    let n = length c.loop-write.yielded in
+    let turn = YieldsList-turn (YieldsList-from_rev_slice ws cc) c.loop-write.yielded _ c.loop-write.yielded_by _ _ w c.in-Some.is c.next.ensures.steps in
+    let l : n < length (stacked ws m.size) = subst (λ k. n < k) (sym (length-map (reverse ws) (cut m.size))) turn.0 in
+    let e : c.size-size.result ≡ m.size = c.size-size.ensures in
+    let v : c.front.result.now ≡ take m.size w.now.page = c.front.ensures.value ∙ ap (λ k. take k w.now.page) e in
+    rw (length_push c.loop-write.yielded w)
+    (left_next {all = stacked ws m.size} {r = c.write.result} {w = cut m.size w.now} l
+    (get_or-map (cut m.size) (reverse ws) n w.now (cut m.size w.now) turn.0 ∙ ap (cut m.size) (sym turn.1)) c.loop-write.invariant
+    (ap length (sym v) ∙ (c.front.ensures.len ∙ e)) (rw (← v) c.write.ensures))

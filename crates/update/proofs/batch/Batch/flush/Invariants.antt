@@ -1,5 +1,9 @@
+use Rattle.std.proofs.Common.{length}
 use Rattle.update.proofs.Batches.{Left}
 use Rattle.update.proofs.batch.Batch.flush.Given as goal
+use Rattle.update.specs.Batches.{stacked}
 
-abbrev pub invariant-loop-i : goal.invariant-loop-i
-invariant-loop-i g l = Left (g.S.Store.meaning l.initial.store) l.self.blocks l.self.pages l.self.len l.i (g.S.Store.meaning l.store)
+abbrev pub invariant-loop-write : goal.invariant-loop-write
+invariant-loop-write g l =
+    let m = g.S.Store.meaning l.initial.store in
+    Left m (stacked l.self m.size) (length l.yielded) (g.S.Store.meaning l.store)
