@@ -1,71 +1,6 @@
 //! Commands, as far as their names and the count of their words go.
 
-/// The name of a command.
-#[derive(Clone, Copy)]
-pub enum Verb {
-    Card,
-    Open,
-    Kind,
-    Save,
-    Mark,
-    Clear,
-    Poke,
-    Dump,
-    Write,
-    Tally,
-    Format,
-    Find,
-    Range,
-    Count,
-}
-
-const VERBS: [Verb; 14] = [
-    Verb::Card,
-    Verb::Open,
-    Verb::Kind,
-    Verb::Save,
-    Verb::Mark,
-    Verb::Clear,
-    Verb::Poke,
-    Verb::Dump,
-    Verb::Write,
-    Verb::Tally,
-    Verb::Format,
-    Verb::Find,
-    Verb::Range,
-    Verb::Count,
-];
-
-impl Verb {
-    fn name(self) -> &'static [u8] {
-        match self {
-            Verb::Card => b"card",
-            Verb::Open => b"open",
-            Verb::Kind => b"kind",
-            Verb::Save => b"save",
-            Verb::Mark => b"mark",
-            Verb::Clear => b"clear",
-            Verb::Poke => b"poke",
-            Verb::Dump => b"dump",
-            Verb::Write => b"write",
-            Verb::Tally => b"tally",
-            Verb::Format => b"format",
-            Verb::Find => b"find",
-            Verb::Range => b"range",
-            Verb::Count => b"count",
-        }
-    }
-
-    /// The command of this name.
-    pub fn named(name: &[u8]) -> Option<Verb> {
-        for verb in VERBS {
-            if verb.name() == name {
-                return Some(verb);
-            }
-        }
-        None
-    }
-}
+use crate::complaint::Complaint;
 
 /// A command on the card, with its words as they stand.
 #[derive(Clone, Copy)]
@@ -83,20 +18,24 @@ pub enum Command<'a> {
     Count,
 }
 
-/// The command on the card that a name and the words after it make, if their count is right.
-pub fn command_of<'a>(verb: Verb, words: &[&'a [u8]]) -> Option<Command<'a>> {
-    match (verb, words) {
-        (Verb::Save, [file]) => Some(Command::Save(file)),
-        (Verb::Mark, [block]) => Some(Command::Mark(block)),
-        (Verb::Clear, [block]) => Some(Command::Clear(block)),
-        (Verb::Poke, [block, at, part]) => Some(Command::Poke(block, at, part)),
-        (Verb::Dump, [block]) => Some(Command::Dump(block)),
-        (Verb::Write, [block, part]) => Some(Command::Write(block, part)),
-        (Verb::Tally, []) => Some(Command::Tally),
-        (Verb::Format, [order]) => Some(Command::Format(order)),
-        (Verb::Find, [key]) => Some(Command::Find(key)),
-        (Verb::Range, [lo, hi, length]) => Some(Command::Range(lo, hi, length)),
-        (Verb::Count, []) => Some(Command::Count),
-        _ => None,
+impl<'a> TryFrom<&[&'a [u8]]> for Command<'a> {
+    type Error = Complaint;
+
+    /// The command on the card that a name and the words after it make, if their count is right.
+    fn try_from(words: &[&'a [u8]]) -> Result<Command<'a>, Complaint> {
+        match words {
+            [b"save", file] => Ok(Command::Save(file)),
+            [b"mark", block] => Ok(Command::Mark(block)),
+            [b"clear", block] => Ok(Command::Clear(block)),
+            [b"poke", block, at, part] => Ok(Command::Poke(block, at, part)),
+            [b"dump", block] => Ok(Command::Dump(block)),
+            [b"write", block, part] => Ok(Command::Write(block, part)),
+            [b"tally"] => Ok(Command::Tally),
+            [b"format", order] => Ok(Command::Format(order)),
+            [b"find", key] => Ok(Command::Find(key)),
+            [b"range", lo, hi, length] => Ok(Command::Range(lo, hi, length)),
+            [b"count"] => Ok(Command::Count),
+            _ => Err(Complaint::UnknownCommand),
+        }
     }
 }

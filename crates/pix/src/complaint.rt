@@ -1,11 +1,11 @@
 //! What a command line can have wrong with it.
 
 use std::alloc::{AllocError, AllocFailed};
-use std::io;
 use std::io::Write;
+use std::{fmt, io};
 
 /// Why a line is not carried out.
-#[derive(Clone, Copy)]
+#[derive(Clone, Copy, PartialEq, Eq, Debug)]
 pub enum Complaint {
     UnknownCommand,
     NoCard,
@@ -17,6 +17,23 @@ pub enum Complaint {
     NoPoke,
     CannotOpen,
     CannotSave,
+}
+
+impl fmt::Display for Complaint {
+    fn fmt<W: fmt::Write>(&self, f: &mut fmt::Formatter<W>) -> fmt::Result {
+        f.write_str(match self {
+            Complaint::UnknownCommand => "unknown command",
+            Complaint::NoCard => "no card",
+            Complaint::BadNumber => "bad number",
+            Complaint::BadKey => "bad key",
+            Complaint::NoSuchBlock => "no such block",
+            Complaint::NoSuchByte => "no such byte",
+            Complaint::NoMarks => "no marks",
+            Complaint::NoPoke => "no poke",
+            Complaint::CannotOpen => "cannot open",
+            Complaint::CannotSave => "cannot save",
+        })
+    }
 }
 
 /// Why a command came to nothing.
@@ -54,25 +71,18 @@ impl<T: Drop> From<AllocFailed<T>> for Failure {
 
 /// Prints the error line of a complaint about the command of these words.
 pub fn explain(rt: &HostRuntime, complaint: Complaint, words: &[&[u8]]) -> io::Result<()> {
-    match complaint {
-        Complaint::UnknownCommand => rt.println("error unknown command"),
-        Complaint::NoCard => rt.println("error no card"),
-        Complaint::BadNumber => rt.println("error bad number"),
-        Complaint::BadKey => rt.println("error bad key"),
-        Complaint::NoSuchBlock => rt.println("error no such block"),
-        Complaint::NoSuchByte => rt.println("error no such byte"),
-        Complaint::NoMarks => rt.println("error no marks"),
-        Complaint::NoPoke => rt.println("error no poke"),
-        Complaint::CannotOpen => explain_file(rt, "error cannot open ", words),
-        Complaint::CannotSave => explain_file(rt, "error cannot save ", words),
-    }
-}
-
-/// The same about the file that the second word names, in the bytes of that word.
-fn explain_file(rt: &HostRuntime, start: &str, words: &[&[u8]]) -> io::Result<()> {
-    rt.print(start)?;
-    if let Some(name) = words.get(1) {
-        rt.stdout().write_all(name)?;
+    print!(rt; "error {complaint}")?;
+    if let Complaint::CannotOpen | Complaint::CannotSave = complaint {
+        print_file(rt, words)?;
     }
     rt.println("")
+}
+
+/// Prints the file that the second word names, in the bytes of that word: they need not be text.
+fn print_file(rt: &HostRuntime, words: &[&[u8]]) -> io::Result<()> {
+    rt.print(" ")?;
+    match words.get(1) {
+        Some(name) => rt.stdout().write_all(name),
+        None => Ok(()),
+    }
 }

@@ -32,7 +32,7 @@ fn serve_all(rt: &HostRuntime) -> anyhow::Result<()> {
     let mut tool = Tool::new();
     for line in BufReader::new(rt.alloc(), rt.stdin())?.split(rt.alloc(), b'\n') {
         let line = line?;
-        if line.first() != Some(&b'#') {
+        if !line.starts_with(b"#") {
             serve(rt, &mut tool, line.as_slice())?;
         }
     }
