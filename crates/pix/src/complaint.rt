@@ -1,5 +1,8 @@
 //! What a command line can have wrong with it.
 
+ghost use Rattle.std.specs.Prelude.{Some};
+ghost use Rattle.pix.specs.Texts.{complaint_text};
+
 use std::alloc::{AllocError, AllocFailed};
 use std::io::Write;
 use std::{fmt, io};
@@ -20,6 +23,8 @@ pub enum Complaint {
 }
 
 impl fmt::Display for Complaint {
+    ghost output = { λ c. Some (complaint_text c) };
+
     fn fmt<W: fmt::Write>(&self, f: &mut fmt::Formatter<W>) -> fmt::Result {
         f.write_str(match self {
             Complaint::UnknownCommand => "unknown command",
@@ -72,17 +77,12 @@ impl<T: Drop> From<AllocFailed<T>> for Failure {
 /// Prints the error line of a complaint about the command of these words.
 pub fn explain(rt: &HostRuntime, complaint: Complaint, words: &[&[u8]]) -> io::Result<()> {
     print!(rt; "error {complaint}")?;
-    if let Complaint::CannotOpen | Complaint::CannotSave = complaint {
-        print_file(rt, words)?;
+    if let Complaint::CannotOpen | Complaint::CannotSave = complaint
+        && let Some(file) = words.get(1)
+    {
+        rt.print(" ")?;
+        // In the bytes in which it came: the name of a file need not be text.
+        rt.stdout().write_all(file)?;
     }
     rt.println("")
-}
-
-/// Prints the file that the second word names, in the bytes of that word: they need not be text.
-fn print_file(rt: &HostRuntime, words: &[&[u8]]) -> io::Result<()> {
-    rt.print(" ")?;
-    match words.get(1) {
-        Some(name) => rt.stdout().write_all(name),
-        None => Ok(()),
-    }
 }

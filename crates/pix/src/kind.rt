@@ -1,5 +1,10 @@
 //! The key kinds that the tool knows.
 
+ghost use Rattle.std.specs.Prelude.{◌≡◌, ◌≢◌, MatchResult, Some};
+ghost use Rattle.pix.specs.declared.complaint.Complaint.TheVariants.{UnknownCommand};
+ghost use Rattle.pix.specs.declared.kind.KeyKind.{KeyKind};
+ghost use Rattle.pix.specs.Texts.{kind_name};
+
 use crate::complaint::Complaint;
 use keys::key::Key;
 use keys::lot::Lot;
@@ -17,6 +22,8 @@ pub enum KeyKind {
 impl TryFrom<&[u8]> for KeyKind {
     type Error = Complaint;
 
+    ghost try_from_gives = { λ name r. MatchResult r (λ k. kind_name k ≡ name.now) (λ e. (e ≡ UnknownCommand) × ((k : KeyKind) → kind_name k ≢ name.now)) };
+
     fn try_from(name: &[u8]) -> Result<KeyKind, Complaint> {
         match name {
             b"lot" => Ok(KeyKind::Lot),
@@ -28,6 +35,8 @@ impl TryFrom<&[u8]> for KeyKind {
 }
 
 impl fmt::Display for KeyKind {
+    ghost output = { λ k. Some (kind_name k) };
+
     fn fmt<W: fmt::Write>(&self, f: &mut fmt::Formatter<W>) -> fmt::Result {
         f.write_str(match self {
             KeyKind::Lot => "lot",

@@ -12,8 +12,9 @@ const LONGEST_BUFFER: u32 = 1_048_576;
 /// The bytes of an entry's number.
 const NUMBER: usize = 4;
 
-/// Makes an empty index. An order above 255 fits no card, as 255 does not.
+/// Makes an empty index.
 pub fn format<K: Text>(rt: &HostRuntime, card: &mut Card, order: &[u8]) -> Result<(), Failure> {
+    // An order above 255 fits no block, as 255 does not.
     let order = number(order)?.min(255) as u8;
     match index::format::format::<Card, K>(card, order) {
         Ok(((), reads)) => Ok(println!(rt; "formatted reads={reads}")?),

@@ -3,7 +3,6 @@
 
 mod blocks;
 mod card;
-mod command;
 mod complaint;
 mod kind;
 mod lookups;

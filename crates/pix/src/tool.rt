@@ -2,7 +2,6 @@
 
 use crate::blocks::{clear, dump, mark, poke, save, tally, write};
 use crate::card::Card;
-use crate::command::Command;
 use crate::complaint::{Complaint, Failure};
 use crate::kind::KeyKind;
 use crate::lookups::{count, find, format, range};
@@ -34,9 +33,36 @@ impl Tool {
             [] => Ok(()),
             [b"card", words @ ..] => self.take(rt, named_card(rt.alloc(), words)?),
             [b"open", file, size] => self.take(rt, opened_card(rt, file, size)?),
+            [b"save", file] => save(rt, self.card()?, file),
             [b"kind", name] => self.choose(rt, KeyKind::try_from(*name)?),
-            _ => self.perform(rt, Command::try_from(words)?),
+            [b"mark", block] => mark(rt, self.card()?, block),
+            [b"clear", block] => clear(rt, self.card()?, block),
+            [b"poke", block, at, part] => poke(rt, self.card()?, block, at, part),
+            [b"dump", block] => dump(rt, self.card()?, block),
+            [b"write", block, part] => write(rt, self.card()?, block, part),
+            [b"tally"] => tally(rt, self.card()?),
+            _ => match self.kind {
+                KeyKind::Lot => self.run_on_index::<Lot>(rt, words),
+                KeyKind::Moment => self.run_on_index::<Moment>(rt, words),
+                KeyKind::Name => self.run_on_index::<Name>(rt, words),
+            },
         }
+    }
+
+    /// Carries out a command on the index of the card, whose keys are of one kind.
+    fn run_on_index<K: Text>(&mut self, rt: &HostRuntime, words: &[&[u8]]) -> Result<(), Failure> {
+        match words {
+            [b"format", order] => format::<K>(rt, self.card()?, order),
+            [b"find", key] => find::<K>(rt, self.card()?, key),
+            [b"range", lo, hi, length] => range::<K>(rt, self.card()?, lo, hi, length),
+            [b"count"] => count::<K>(rt, self.card()?),
+            _ => Err(Complaint::UnknownCommand.into()),
+        }
+    }
+
+    /// The card to work on.
+    fn card(&mut self) -> Result<&mut Card, Complaint> {
+        self.card.as_mut().ok_or(Complaint::NoCard)
     }
 
     /// Makes a card the one to work on, and says how large it is.
@@ -52,32 +78,5 @@ impl Tool {
     fn choose(&mut self, rt: &HostRuntime, kind: KeyKind) -> Result<(), Failure> {
         self.kind = kind;
         Ok(kind.print(rt)?)
-    }
-
-    /// Carries out a command on the card.
-    fn perform(&mut self, rt: &HostRuntime, command: Command) -> Result<(), Failure> {
-        let card = self.card.as_mut().ok_or(Complaint::NoCard)?;
-        match self.kind {
-            KeyKind::Lot => perform::<Lot>(rt, card, command),
-            KeyKind::Moment => perform::<Moment>(rt, card, command),
-            KeyKind::Name => perform::<Name>(rt, card, command),
-        }
-    }
-}
-
-/// Carries out a command on a card whose keys are of a kind.
-fn perform<K: Text>(rt: &HostRuntime, card: &mut Card, command: Command) -> Result<(), Failure> {
-    match command {
-        Command::Save(file) => save(rt, card, file),
-        Command::Mark(block) => mark(rt, card, block),
-        Command::Clear(block) => clear(rt, card, block),
-        Command::Poke(block, at, part) => poke(rt, card, block, at, part),
-        Command::Dump(block) => dump(rt, card, block),
-        Command::Write(block, part) => write(rt, card, block, part),
-        Command::Tally => tally(rt, card),
-        Command::Format(order) => format::<K>(rt, card, order),
-        Command::Find(key) => find::<K>(rt, card, key),
-        Command::Range(lo, hi, length) => range::<K>(rt, card, lo, hi, length),
-        Command::Count => count::<K>(rt, card),
     }
 }
