@@ -78,13 +78,12 @@ pub fn write<S: Store>(
     part: &[u8],
 ) -> Result<(), Failure> {
     let block = number(block)?;
-    let part = bytes(rt.alloc(), part)?;
+    let mut page = bytes(rt.alloc(), part)?;
     let size = store.size() as usize;
-    if part.len() > size {
+    if page.len() > size {
         return Err(Complaint::NoSuchByte.into());
     }
-    let mut page = vec![in rt.alloc(); 0u8; size]?;
-    page.as_mut_slice()[0..part.len()].copy_from_slice(part.as_slice());
+    page.resize(size, 0)?;
     match store.write(block, page.as_slice()) {
         Ok(()) => Ok(rt.println("ok")?),
         Err(fault) => print_fault(rt, fault),

@@ -29,12 +29,13 @@ impl Tool {
 
     /// Carries out the command of these words.
     pub fn run(&mut self, rt: &HostRuntime, words: &[&[u8]]) -> Result<(), Failure> {
+        // The runtime and the card go side by side: a struct of both would be made anew at each command.
         match words {
             [] => Ok(()),
             [b"card", words @ ..] => self.take(rt, named_card(rt.alloc(), words)?),
             [b"open", file, size] => self.take(rt, opened_card(rt, file, size)?),
-            [b"save", file] => save(rt, self.card()?, file),
             [b"kind", name] => self.choose(rt, KeyKind::try_from(*name)?),
+            [b"save", file] => save(rt, self.card()?, file),
             [b"mark", block] => mark(rt, self.card()?, block),
             [b"clear", block] => clear(rt, self.card()?, block),
             [b"poke", block, at, part] => poke(rt, self.card()?, block, at, part),
