@@ -10,16 +10,9 @@ use store::store::Store;
 
 /// Writes the blocks of the plain store to a file.
 pub fn save(rt: &HostRuntime, card: &mut Card, file: &[u8]) -> Result<(), Failure> {
-    let Some(store) = card.plain() else {
-        return Err(Failure::Line(Complaint::CannotSave));
-    };
-    let blocks = store.blocks();
-    let Ok(name) = std::str::from_utf8(file) else {
-        return Err(Failure::Line(Complaint::CannotSave));
-    };
-    if fs::write(rt, name, blocks).is_err() {
-        return Err(Failure::Line(Complaint::CannotSave));
-    }
+    let blocks = card.plain().ok_or(Complaint::CannotSave)?.blocks();
+    let name = std::str::from_utf8(file).map_err(|_| Complaint::CannotSave)?;
+    fs::write(rt, name, blocks).map_err(|_| Complaint::CannotSave)?;
     let length = blocks.len();
     println!(rt; "saved {length}")?;
     Ok(())
@@ -28,19 +21,15 @@ pub fn save(rt: &HostRuntime, card: &mut Card, file: &[u8]) -> Result<(), Failur
 /// Marks a block of the plain store.
 pub fn mark(rt: &HostRuntime, card: &mut Card, block: &[u8]) -> Result<(), Failure> {
     let block = number(block)?;
-    match card.plain() {
-        Some(store) => told(rt, store.mark(block)),
-        None => Err(Failure::Line(Complaint::NoMarks)),
-    }
+    let store = card.plain().ok_or(Complaint::NoMarks)?;
+    told(rt, store.mark(block))
 }
 
 /// Takes the mark of a block of the plain store away.
 pub fn clear(rt: &HostRuntime, card: &mut Card, block: &[u8]) -> Result<(), Failure> {
     let block = number(block)?;
-    match card.plain() {
-        Some(store) => told(rt, store.clear(block)),
-        None => Err(Failure::Line(Complaint::NoMarks)),
-    }
+    let store = card.plain().ok_or(Complaint::NoMarks)?;
+    told(rt, store.clear(block))
 }
 
 /// Changes bytes of a block of the plain store.
@@ -54,23 +43,16 @@ pub fn poke(
     let block = number(block)?;
     let at = number(at)?;
     let part = bytes(rt.alloc(), part)?;
-    match card.plain() {
-        Some(store) => told(rt, store.patch(block, at as usize, part.as_slice())),
-        None => Err(Failure::Line(Complaint::NoPoke)),
-    }
+    let store = card.plain().ok_or(Complaint::NoPoke)?;
+    told(rt, store.patch(block, at as usize, part.as_slice()))
 }
 
 /// Says that a change of the plain store was made, or why not.
 fn told(rt: &HostRuntime, answer: Result<(), Fault>) -> Result<(), Failure> {
     match answer {
         Ok(()) => Ok(rt.println("ok")?),
-        Err(
-            Fault {
-                cause: Cause::NoSuchBlock,
-                ..
-            },
-        ) => Err(Failure::Line(Complaint::NoSuchBlock)),
-        Err(_) => Err(Failure::Line(Complaint::NoSuchByte)),
+        Err(fault) if fault.cause == Cause::NoSuchBlock => Err(Complaint::NoSuchBlock.into()),
+        Err(_) => Err(Complaint::NoSuchByte.into()),
     }
 }
 
@@ -96,17 +78,23 @@ pub fn write<S: Store>(
     part: &[u8],
 ) -> Result<(), Failure> {
     let block = number(block)?;
-    let part = bytes(rt.alloc(), part)?;
+    let mut page = bytes(rt.alloc(), part)?;
     let size = store.size() as usize;
-    if part.len() > size {
-        return Err(Failure::Line(Complaint::NoSuchByte));
+    if page.len() > size {
+        return Err(Complaint::NoSuchByte.into());
     }
-    let mut page = vec![in rt.alloc(); 0u8; size]?;
-    page.as_mut_slice()[0..part.len()].copy_from_slice(part.as_slice());
+    page.resize(size, 0)?;
     match store.write(block, page.as_slice()) {
         Ok(()) => Ok(rt.println("ok")?),
         Err(fault) => print_fault(rt, fault),
     }
+}
+
+/// Says what the top store's tally is.
+pub fn tally<S: Store>(rt: &HostRuntime, store: &S) -> Result<(), Failure> {
+    let tally = store.tally();
+    println!(rt; "tally {tally}")?;
+    Ok(())
 }
 
 fn print_fault(rt: &HostRuntime, fault: Fault) -> Result<(), Failure> {

@@ -20,64 +20,43 @@ pub enum Card {
     CheckedBench(Check<BenchStore>),
 }
 
+/// Makes a call on the top store of a card, whichever that is.
+macro_rules! on_top {
+    ($card:expr, $store:ident => $call:expr) => {
+        match $card {
+            Card::Plain($store) => $call,
+            Card::Checked($store) => $call,
+            Card::Windowed($store) => $call,
+            Card::Piled($store) => $call,
+            Card::Bench($store) => $call,
+            Card::CheckedBench($store) => $call,
+        }
+    };
+}
+
 impl Store for Card {
     ghost meaning = { card };
 
     ghost limits = { card_limits };
 
     fn count(&self) -> u32 {
-        match self {
-            Card::Plain(store) => store.count(),
-            Card::Checked(store) => store.count(),
-            Card::Windowed(store) => store.count(),
-            Card::Piled(store) => store.count(),
-            Card::Bench(store) => store.count(),
-            Card::CheckedBench(store) => store.count(),
-        }
+        on_top!(self, store => store.count())
     }
 
     fn size(&self) -> u32 {
-        match self {
-            Card::Plain(store) => store.size(),
-            Card::Checked(store) => store.size(),
-            Card::Windowed(store) => store.size(),
-            Card::Piled(store) => store.size(),
-            Card::Bench(store) => store.size(),
-            Card::CheckedBench(store) => store.size(),
-        }
+        on_top!(self, store => store.size())
     }
 
     fn tally(&self) -> u64 {
-        match self {
-            Card::Plain(store) => store.tally(),
-            Card::Checked(store) => store.tally(),
-            Card::Windowed(store) => store.tally(),
-            Card::Piled(store) => store.tally(),
-            Card::Bench(store) => store.tally(),
-            Card::CheckedBench(store) => store.tally(),
-        }
+        on_top!(self, store => store.tally())
     }
 
     fn read(&mut self, block: u32, buffer: &mut [u8]) -> Result<(), Fault> {
-        match self {
-            Card::Plain(store) => store.read(block, buffer),
-            Card::Checked(store) => store.read(block, buffer),
-            Card::Windowed(store) => store.read(block, buffer),
-            Card::Piled(store) => store.read(block, buffer),
-            Card::Bench(store) => store.read(block, buffer),
-            Card::CheckedBench(store) => store.read(block, buffer),
-        }
+        on_top!(self, store => store.read(block, buffer))
     }
 
     fn write(&mut self, block: u32, buffer: &[u8]) -> Result<(), Fault> {
-        match self {
-            Card::Plain(store) => store.write(block, buffer),
-            Card::Checked(store) => store.write(block, buffer),
-            Card::Windowed(store) => store.write(block, buffer),
-            Card::Piled(store) => store.write(block, buffer),
-            Card::Bench(store) => store.write(block, buffer),
-            Card::CheckedBench(store) => store.write(block, buffer),
-        }
+        on_top!(self, store => store.write(block, buffer))
     }
 }
 
@@ -89,8 +68,7 @@ impl Card {
             Card::Checked(layer) => Some(layer.below()),
             Card::Windowed(layer) => Some(layer.below()),
             Card::Piled(layer) => Some(layer.below().below()),
-            Card::Bench(_) => None,
-            Card::CheckedBench(_) => None,
+            Card::Bench(_) | Card::CheckedBench(_) => None,
         }
     }
 }

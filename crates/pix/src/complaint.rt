@@ -1,11 +1,14 @@
 //! What a command line can have wrong with it.
 
+ghost use Rattle.std.specs.Prelude.{Some};
+ghost use Rattle.pix.specs.Texts.{complaint_text};
+
 use std::alloc::{AllocError, AllocFailed};
-use std::io;
 use std::io::Write;
+use std::{fmt, io};
 
 /// Why a line is not carried out.
-#[derive(Clone, Copy)]
+#[derive(Clone, Copy, PartialEq, Eq, Debug)]
 pub enum Complaint {
     UnknownCommand,
     NoCard,
@@ -17,6 +20,25 @@ pub enum Complaint {
     NoPoke,
     CannotOpen,
     CannotSave,
+}
+
+impl fmt::Display for Complaint {
+    ghost output = { λ c. Some (complaint_text c) };
+
+    fn fmt<W: fmt::Write>(&self, f: &mut fmt::Formatter<W>) -> fmt::Result {
+        f.write_str(match self {
+            Complaint::UnknownCommand => "unknown command",
+            Complaint::NoCard => "no card",
+            Complaint::BadNumber => "bad number",
+            Complaint::BadKey => "bad key",
+            Complaint::NoSuchBlock => "no such block",
+            Complaint::NoSuchByte => "no such byte",
+            Complaint::NoMarks => "no marks",
+            Complaint::NoPoke => "no poke",
+            Complaint::CannotOpen => "cannot open",
+            Complaint::CannotSave => "cannot save",
+        })
+    }
 }
 
 /// Why a command came to nothing.
@@ -54,25 +76,13 @@ impl<T: Drop> From<AllocFailed<T>> for Failure {
 
 /// Prints the error line of a complaint about the command of these words.
 pub fn explain(rt: &HostRuntime, complaint: Complaint, words: &[&[u8]]) -> io::Result<()> {
-    match complaint {
-        Complaint::UnknownCommand => rt.println("error unknown command"),
-        Complaint::NoCard => rt.println("error no card"),
-        Complaint::BadNumber => rt.println("error bad number"),
-        Complaint::BadKey => rt.println("error bad key"),
-        Complaint::NoSuchBlock => rt.println("error no such block"),
-        Complaint::NoSuchByte => rt.println("error no such byte"),
-        Complaint::NoMarks => rt.println("error no marks"),
-        Complaint::NoPoke => rt.println("error no poke"),
-        Complaint::CannotOpen => explain_file(rt, "error cannot open ", words),
-        Complaint::CannotSave => explain_file(rt, "error cannot save ", words),
-    }
-}
-
-/// The same about the file that the second word names, in the bytes of that word.
-fn explain_file(rt: &HostRuntime, start: &str, words: &[&[u8]]) -> io::Result<()> {
-    rt.print(start)?;
-    if let Some(name) = words.get(1) {
-        rt.stdout().write_all(name)?;
+    print!(rt; "error {complaint}")?;
+    if let Complaint::CannotOpen | Complaint::CannotSave = complaint
+        && let Some(file) = words.get(1)
+    {
+        rt.print(" ")?;
+        // In the bytes in which it came: the name of a file need not be text.
+        rt.stdout().write_all(file)?;
     }
     rt.println("")
 }

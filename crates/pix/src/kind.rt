@@ -1,61 +1,64 @@
 //! The key kinds that the tool knows.
 
-use crate::complaint::Failure;
+ghost use Rattle.std.specs.Prelude.{◌≡◌, ◌≢◌, MatchResult, Some};
+ghost use Rattle.pix.specs.declared.complaint.Complaint.TheVariants.{UnknownCommand};
+ghost use Rattle.pix.specs.declared.kind.KeyKind.{KeyKind};
+ghost use Rattle.pix.specs.Texts.{kind_name};
+
+use crate::complaint::Complaint;
 use keys::key::Key;
 use keys::lot::Lot;
 use keys::moment::Moment;
 use keys::name::Name;
+use std::{fmt, io};
 
-#[derive(Clone, Copy)]
+#[derive(Clone, Copy, PartialEq, Eq, Debug)]
 pub enum KeyKind {
     Lot,
     Moment,
     Name,
 }
 
-const KINDS: [KeyKind; 3] = [KeyKind::Lot, KeyKind::Moment, KeyKind::Name];
+impl TryFrom<&[u8]> for KeyKind {
+    type Error = Complaint;
 
-impl KeyKind {
-    fn name(self) -> &'static str {
-        match self {
+    ghost try_from_gives = { λ name r. MatchResult r (λ k. kind_name k ≡ name.now) (λ e. (e ≡ UnknownCommand) × ((k : KeyKind) → kind_name k ≢ name.now)) };
+
+    fn try_from(name: &[u8]) -> Result<KeyKind, Complaint> {
+        match name {
+            b"lot" => Ok(KeyKind::Lot),
+            b"moment" => Ok(KeyKind::Moment),
+            b"name" => Ok(KeyKind::Name),
+            _ => Err(Complaint::UnknownCommand),
+        }
+    }
+}
+
+impl fmt::Display for KeyKind {
+    ghost output = { λ k. Some (kind_name k) };
+
+    fn fmt<W: fmt::Write>(&self, f: &mut fmt::Formatter<W>) -> fmt::Result {
+        f.write_str(match self {
             KeyKind::Lot => "lot",
             KeyKind::Moment => "moment",
             KeyKind::Name => "name",
-        }
+        })
     }
+}
 
-    fn code(self) -> u8 {
-        match self {
-            KeyKind::Lot => Lot::key_code(),
-            KeyKind::Moment => Moment::key_code(),
-            KeyKind::Name => Name::key_code(),
-        }
-    }
-
-    fn width(self) -> usize {
-        match self {
-            KeyKind::Lot => Lot::key_width(),
-            KeyKind::Moment => Moment::key_width(),
-            KeyKind::Name => Name::key_width(),
-        }
-    }
-
-    /// The kind of this name.
-    pub fn named(name: &[u8]) -> Option<KeyKind> {
-        for kind in KINDS {
-            if kind.name().as_bytes() == name {
-                return Some(kind);
-            }
-        }
-        None
-    }
-
+impl KeyKind {
     /// Prints the kind with its code and width.
-    pub fn print(self, rt: &HostRuntime) -> Result<(), Failure> {
-        let name = self.name();
-        let code = self.code();
-        let width = self.width();
-        println!(rt; "kind {name} code={code} width={width}")?;
-        Ok(())
+    pub fn print(self, rt: &HostRuntime) -> io::Result<()> {
+        match self {
+            KeyKind::Lot => self.print_as::<Lot>(rt),
+            KeyKind::Moment => self.print_as::<Moment>(rt),
+            KeyKind::Name => self.print_as::<Name>(rt),
+        }
+    }
+
+    fn print_as<K: Key>(self, rt: &HostRuntime) -> io::Result<()> {
+        let code = K::key_code();
+        let width = K::key_width();
+        println!(rt; "kind {self} code={code} width={width}")
     }
 }

@@ -2,7 +2,7 @@
 
 use crate::card::Card;
 use crate::complaint::Failure;
-use crate::words::{key, number_to};
+use crate::words::{key, number, number_to};
 use keys::text::Text;
 use store::store::Store;
 use tree::refusal::{Refusal, Refused};
@@ -13,12 +13,11 @@ const LONGEST_BUFFER: u32 = 1_048_576;
 const NUMBER: usize = 4;
 
 /// Makes an empty index.
-pub fn format<K: Text>(rt: &HostRuntime, card: &mut Card, order: u8) -> Result<(), Failure> {
+pub fn format<K: Text>(rt: &HostRuntime, card: &mut Card, order: &[u8]) -> Result<(), Failure> {
+    // An order above 255 fits no block, as 255 does not.
+    let order = number(order)?.min(255) as u8;
     match index::format::format::<Card, K>(card, order) {
-        Ok(((), reads)) => {
-            println!(rt; "formatted reads={reads}")?;
-            Ok(())
-        }
+        Ok(((), reads)) => Ok(println!(rt; "formatted reads={reads}")?),
         Err(refused) => print_refused(rt, refused),
     }
 }
@@ -27,14 +26,8 @@ pub fn format<K: Text>(rt: &HostRuntime, card: &mut Card, order: u8) -> Result<(
 pub fn find<K: Text>(rt: &HostRuntime, card: &mut Card, word: &[u8]) -> Result<(), Failure> {
     let key = key::<K>(word)?;
     match index::find::find(card, &key) {
-        Ok((Some(record), reads)) => {
-            println!(rt; "found {record} reads={reads}")?;
-            Ok(())
-        }
-        Ok((None, reads)) => {
-            println!(rt; "absent reads={reads}")?;
-            Ok(())
-        }
+        Ok((Some(record), reads)) => Ok(println!(rt; "found {record} reads={reads}")?),
+        Ok((None, reads)) => Ok(println!(rt; "absent reads={reads}")?),
         Err(refused) => print_refused(rt, refused),
     }
 }
@@ -72,14 +65,11 @@ pub fn range<K: Text>(
 
 /// Prints the entries at the front of the buffer, a line each.
 fn print_entries<K: Text>(rt: &HostRuntime, buffer: &[u8], entries: usize) -> Result<(), Failure> {
-    let width = K::key_width();
-    for entry in buffer.chunks(width + NUMBER).take(entries) {
-        if entry.len() < width + NUMBER {
-            break;
-        }
-        let (key, number) = entry.split_at(width);
-        let record = u32::from_be_bytes([number[0], number[1], number[2], number[3]]);
-        if let Some(key) = K::read(key) {
+    for entry in buffer.chunks_exact(K::key_width() + NUMBER).take(entries) {
+        if let Some((key, number)) = entry.split_last_chunk::<NUMBER>()
+            && let Some(key) = K::read(key)
+        {
+            let record = u32::from_be_bytes(*number);
             println!(rt; "  {key} {record}")?;
         }
     }
@@ -89,10 +79,7 @@ fn print_entries<K: Text>(rt: &HostRuntime, buffer: &[u8], entries: usize) -> Re
 /// Counts the keys.
 pub fn count<K: Text>(rt: &HostRuntime, card: &mut Card) -> Result<(), Failure> {
     match index::count::count::<Card, K>(card) {
-        Ok((keys, reads)) => {
-            println!(rt; "count {keys} reads={reads}")?;
-            Ok(())
-        }
+        Ok((keys, reads)) => Ok(println!(rt; "count {keys} reads={reads}")?),
         Err(refused) => print_refused(rt, refused),
     }
 }

@@ -3,7 +3,6 @@
 
 mod blocks;
 mod card;
-mod command;
 mod complaint;
 mod kind;
 mod lookups;
@@ -32,7 +31,7 @@ fn serve_all(rt: &HostRuntime) -> anyhow::Result<()> {
     let mut tool = Tool::new();
     for line in BufReader::new(rt.alloc(), rt.stdin())?.split(rt.alloc(), b'\n') {
         let line = line?;
-        if line.first() != Some(&b'#') {
+        if !line.starts_with(b"#") {
             serve(rt, &mut tool, line.as_slice())?;
         }
     }

@@ -1,16 +1,15 @@
 //! The tool: a card, and the commands on it.
 
-use crate::blocks::{clear, dump, mark, poke, save, write};
+use crate::blocks::{clear, dump, mark, poke, save, tally, write};
 use crate::card::Card;
-use crate::command::{Command, Verb, command_of};
 use crate::complaint::{Complaint, Failure};
 use crate::kind::KeyKind;
 use crate::lookups::{count, find, format, range};
 use crate::making::{named_card, opened_card};
-use crate::words::number;
 use keys::lot::Lot;
 use keys::moment::Moment;
 use keys::name::Name;
+use keys::text::Text;
 use store::store::Store;
 
 /// The card that the commands work on, if there is one yet, and the kind of its keys.
@@ -30,16 +29,41 @@ impl Tool {
 
     /// Carries out the command of these words.
     pub fn run(&mut self, rt: &HostRuntime, words: &[&[u8]]) -> Result<(), Failure> {
-        let [name, words @ ..] = words else {
-            return Ok(());
-        };
-        match Verb::named(name) {
-            Some(Verb::Card) => self.take(rt, named_card(rt.alloc(), words)?),
-            Some(Verb::Open) => self.take(rt, opened_card(rt, words)?),
-            Some(Verb::Kind) => self.choose(rt, words),
-            Some(verb) => self.perform(rt, verb, words),
-            None => Err(Failure::Line(Complaint::UnknownCommand)),
+        // The runtime and the card go side by side: a struct of both would be made anew at each command.
+        match words {
+            [] => Ok(()),
+            [b"card", words @ ..] => self.take(rt, named_card(rt.alloc(), words)?),
+            [b"open", file, size] => self.take(rt, opened_card(rt, file, size)?),
+            [b"kind", name] => self.choose(rt, KeyKind::try_from(*name)?),
+            [b"save", file] => save(rt, self.card()?, file),
+            [b"mark", block] => mark(rt, self.card()?, block),
+            [b"clear", block] => clear(rt, self.card()?, block),
+            [b"poke", block, at, part] => poke(rt, self.card()?, block, at, part),
+            [b"dump", block] => dump(rt, self.card()?, block),
+            [b"write", block, part] => write(rt, self.card()?, block, part),
+            [b"tally"] => tally(rt, self.card()?),
+            _ => match self.kind {
+                KeyKind::Lot => self.run_on_index::<Lot>(rt, words),
+                KeyKind::Moment => self.run_on_index::<Moment>(rt, words),
+                KeyKind::Name => self.run_on_index::<Name>(rt, words),
+            },
         }
+    }
+
+    /// Carries out a command on the index of the card, whose keys are of one kind.
+    fn run_on_index<K: Text>(&mut self, rt: &HostRuntime, words: &[&[u8]]) -> Result<(), Failure> {
+        match words {
+            [b"format", order] => format::<K>(rt, self.card()?, order),
+            [b"find", key] => find::<K>(rt, self.card()?, key),
+            [b"range", lo, hi, length] => range::<K>(rt, self.card()?, lo, hi, length),
+            [b"count"] => count::<K>(rt, self.card()?),
+            _ => Err(Complaint::UnknownCommand.into()),
+        }
+    }
+
+    /// The card to work on.
+    fn card(&mut self) -> Result<&mut Card, Complaint> {
+        self.card.as_mut().ok_or(Complaint::NoCard)
     }
 
     /// Makes a card the one to work on, and says how large it is.
@@ -52,69 +76,8 @@ impl Tool {
     }
 
     /// Makes a kind the one of the keys from here on.
-    fn choose(&mut self, rt: &HostRuntime, words: &[&[u8]]) -> Result<(), Failure> {
-        let [name] = words else {
-            return Err(Failure::Line(Complaint::UnknownCommand));
-        };
-        let Some(kind) = KeyKind::named(name) else {
-            return Err(Failure::Line(Complaint::UnknownCommand));
-        };
+    fn choose(&mut self, rt: &HostRuntime, kind: KeyKind) -> Result<(), Failure> {
         self.kind = kind;
-        kind.print(rt)
-    }
-
-    /// Carries out a command on the card.
-    fn perform(&mut self, rt: &HostRuntime, verb: Verb, words: &[&[u8]]) -> Result<(), Failure> {
-        let Some(command) = command_of(verb, words) else {
-            return Err(Failure::Line(Complaint::UnknownCommand));
-        };
-        match &mut self.card {
-            Some(card) => perform(rt, card, self.kind, command),
-            None => Err(Failure::Line(Complaint::NoCard)),
-        }
-    }
-}
-
-fn perform(
-    rt: &HostRuntime,
-    card: &mut Card,
-    kind: KeyKind,
-    command: Command,
-) -> Result<(), Failure> {
-    match command {
-        Command::Save(file) => save(rt, card, file),
-        Command::Mark(block) => mark(rt, card, block),
-        Command::Clear(block) => clear(rt, card, block),
-        Command::Poke(block, at, part) => poke(rt, card, block, at, part),
-        Command::Dump(block) => dump(rt, card, block),
-        Command::Write(block, part) => write(rt, card, block, part),
-        Command::Tally => {
-            let tally = card.tally();
-            println!(rt; "tally {tally}")?;
-            Ok(())
-        }
-        Command::Format(order) => {
-            let order = number(order)?.min(255) as u8;
-            match kind {
-                KeyKind::Lot => format::<Lot>(rt, card, order),
-                KeyKind::Moment => format::<Moment>(rt, card, order),
-                KeyKind::Name => format::<Name>(rt, card, order),
-            }
-        }
-        Command::Find(word) => match kind {
-            KeyKind::Lot => find::<Lot>(rt, card, word),
-            KeyKind::Moment => find::<Moment>(rt, card, word),
-            KeyKind::Name => find::<Name>(rt, card, word),
-        },
-        Command::Range(lo, hi, length) => match kind {
-            KeyKind::Lot => range::<Lot>(rt, card, lo, hi, length),
-            KeyKind::Moment => range::<Moment>(rt, card, lo, hi, length),
-            KeyKind::Name => range::<Name>(rt, card, lo, hi, length),
-        },
-        Command::Count => match kind {
-            KeyKind::Lot => count::<Lot>(rt, card),
-            KeyKind::Moment => count::<Moment>(rt, card),
-            KeyKind::Name => count::<Name>(rt, card),
-        },
+        Ok(kind.print(rt)?)
     }
 }

@@ -8,20 +8,9 @@ use std::alloc::{AllocError, Global};
 
 /// The words of a line, which spaces separate.
 pub fn split_words(heap: Global, line: &[u8]) -> Result<Vec<&[u8]>, AllocError> {
-    let mut words: Vec<&[u8]> = Vec::new(heap);
-    let mut from = 0;
-    for (i, byte) in line.iter().enumerate() {
-        if *byte == b' ' {
-            if from < i {
-                words.push(&line[from..i])?;
-            }
-            from = i + 1;
-        }
-    }
-    if from < line.len() {
-        words.push(&line[from..line.len()])?;
-    }
-    Ok(words)
+    line.split(|byte| *byte == b' ')
+        .filter(|word| !word.is_empty())
+        .collect(heap)
 }
 
 /// A decimal number of at most 32 bits.
@@ -31,24 +20,16 @@ pub fn number(word: &[u8]) -> Result<u32, Complaint> {
 
 /// A decimal number that is not above `most`.
 pub fn number_to(word: &[u8], most: u32) -> Result<u32, Complaint> {
-    match number_below(word, u64::from(most) + 1) {
-        Some(number) => Ok(number as u32),
-        None => Err(Complaint::BadNumber),
-    }
+    let number = number_below(word, u64::from(most) + 1).ok_or(Complaint::BadNumber)?;
+    Ok(number as u32)
 }
 
 /// A key of a kind.
 pub fn key<K: Text>(word: &[u8]) -> Result<K, Complaint> {
-    match K::parse(word) {
-        Some(key) => Ok(key),
-        None => Err(Complaint::BadKey),
-    }
+    K::parse(word).ok_or(Complaint::BadKey)
 }
 
 /// Bytes in hexadecimal digits.
 pub fn bytes(heap: Global, word: &[u8]) -> Result<Vec<u8>, Failure> {
-    match bytes_of(heap, word)? {
-        Some(bytes) => Ok(bytes),
-        None => Err(Failure::Line(Complaint::BadNumber)),
-    }
+    Ok(bytes_of(heap, word)?.ok_or(Complaint::BadNumber)?)
 }
