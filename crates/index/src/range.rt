@@ -18,6 +18,7 @@ use keys::key::Key;
 use page::fields::number_at;
 use page::gather::gather;
 use page::head::is_fit;
+use page::rows::NodeView;
 use store::store::Store;
 use tree::refusal::{RangeRefused, Refusal};
 
@@ -36,7 +37,7 @@ fn follow_leaves<S: Store, K: Key>(
     let mut taken = 0;
     let mut fuel = store.count() - 2;
     'leaves: loop {
-        let (number, end) = gather(page, lo, hi, buffer, taken);
+        let (number, end) = gather(&NodeView::of(page), lo, hi, buffer, taken);
         taken = number;
         if let Some(more) = end {
             return (taken, Ok(more));
