@@ -19,6 +19,7 @@ use keys::key::Key;
 use page::fields::number_at;
 use page::gather::gather;
 use page::head::is_fit;
+use page::rows::NodeView;
 use store::store::Store;
 use tree::refusal::{RangeRefusal, Refusal, Refused};
 use tree::rule::Rule;
@@ -38,7 +39,7 @@ fn follow_leaves<S: Store, K: Key>(
     let mut taken = 0;
     let mut fuel = store.count() - 2;
     'leaves: loop {
-        let (number, end) = gather(page, lo, hi, buffer, taken);
+        let (number, end) = gather(&NodeView::of(page), lo, hi, buffer, taken);
         taken = number;
         if let Some(more) = end {
             return Ok((taken, more));

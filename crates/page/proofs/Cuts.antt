@@ -1,5 +1,5 @@
 -- Entries cut from bytes one after another, as an iterator cuts them.
-use Rattle.std.proofs.Common.{◌≡◌, ℕ, zero, suc, ◌+◌, ◌*◌, ◌≤◌, Bool, true, false, cond, List, ◌++◌, length, take, drop, Some, None, Option, Bor, sym, refl, ap, ◌∙◌, suc-mul, arith, length-append, rules}
+use Rattle.std.proofs.Common.{◌≡◌, ℕ, zero, suc, ◌+◌, ◌*◌, ◌≤◌, true, false, cond, List, ◌++◌, length, take, drop, Some, None, Bor, refl, ap, ◌∙◌, suc-mul, arith, length-append, rules}
 use Rattle.std.proofs.lemmas.List.{drop_at, take_at, places, same_lists}
 use Rattle.std.specs.Iterator.Adapters.{take_count, take_source, take_steps}
 use Rattle.std.specs.Slice.Iter.{chunks_exact_rest, chunks_exact_size, chunks_exact_steps}

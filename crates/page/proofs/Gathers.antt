@@ -122,12 +122,10 @@ module _ {K : Type 0} (κ : Kind K) (L : Lawful κ) where
         rw e (omega arith, omega arith)
 
     pub gathered : (n m low : ℕ) (bs : List ℕ) (d : Node K) → see_node κ n m true low bs ≡ right d → 8 + get_or bs 1 0 * (κ.width + 4) ≤ length bs → Bytes bs
-        → (t : ℕ) (buf : List ℕ) → t * (κ.width + 4) ≤ length buf → (rows : List ℕ) → rows ≡ drop 8 bs
-        → (r : ℕ × Option Bool) (next : List ℕ) → (r.0, r.1, next) ≡ gather_on κ lo hi (get_or bs 1 0) rows t buf → Gathered κ lo hi d t buf r next
-    gathered n m low bs d h f p t buf g rows o r next e =
+        → (t : ℕ) (buf : List ℕ) → t * (κ.width + 4) ≤ length buf
+        → (r : ℕ × Option Bool) (next : List ℕ) → (r.0, r.1, next) ≡ gather_on κ lo hi (get_or bs 1 0) (drop 8 bs) t buf → Gathered κ lo hi d t buf r next
+    gathered n m low bs d h f p t buf g r next e =
         let s = seen_right κ n m true low bs d h in
-        let l : get_or bs 1 0 * (κ.width + 4) ≤ length rows = rw o (simp length-drop (omega arith)) in
-        let y : Bytes rows = rw o (drop_bytes 8 bs p) in
-        let i : see_entries κ (get_or bs 1 0) rows ≡ Some d.entries = rw o s.entries in
-        let w = e ∙ gather_entries (get_or bs 1 0) rows t (length buf / (κ.width + 4) - t) buf d.entries i l y (room_is t buf g) in
+        let l : get_or bs 1 0 * (κ.width + 4) ≤ length (drop 8 bs) = simp length-drop (omega arith) in
+        let w = e ∙ gather_entries (get_or bs 1 0) (drop 8 bs) t (length buf / (κ.width + 4) - t) buf d.entries s.entries l (drop_bytes 8 bs p) (room_is t buf g) in
         record { number = ap (λ (x : Walked). x.0) w; end = ap (λ (x : Walked). x.1) w; filled = ap (λ (x : Walked). x.2) w }

@@ -1,5 +1,5 @@
 -- Numbers in fewer than five bytes.
-use Rattle.std.proofs.Common.{◌≡◌, ℕ, ◌+◌, ◌-◌, ◌≤◌, List, [], ◌∷◌, ◌++◌, length, take, drop, replicate, w32, refl, sym, arith, length-drop, length-take}
+use Rattle.std.proofs.Common.{◌≡◌, ℕ, ◌+◌, ◌-◌, ◌≤◌, List, [], ◌∷◌, ◌++◌, length, take, drop, replicate, w32, refl, arith, length-drop, length-take}
 use Rattle.std.specs.Int.{from_be_bytes}
 use Rattle.keys.specs.Bytes.{from_bytes}
 

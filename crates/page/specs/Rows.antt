@@ -4,8 +4,7 @@
 --   kid_at κ k b n bs             the child for k among n entries, where b is the child before them
 --   place_at κ k a n bs           how many of n entries are up to k, a more
 --   record_at κ k n bs            the record of k among n entries
---   links_within κ count is_leaf b n bs   whether a node's link b and its n children keep rule 5
---   links_fit κ count is_leaf bs  whether those of the node in a block do
+--   links_fit κ count is_leaf bs  whether a node's link and children keep rule 5
 --   flaw_of s                     the rule that a block breaks
 use Rattle.std.specs.Prelude.{ℕ, zero, suc, ◌+◌, Bool, true, false, cond, ◌&&◌, List, drop, Some, None, Option, nat_lt}
 use Rattle.keys.specs.Kind.{Kind}
@@ -44,12 +43,9 @@ module _ {K : Type 0} (κ : Kind K) where
   record_at k zero bs = None
   record_at k (suc n) bs = record_by k (number_of κ bs) (key_of κ bs) (record_at k n (past κ bs))
 
-  abbrev pub links_within : ℕ → Bool → ℕ → ℕ → List ℕ → Bool
-  links_within count true b n bs = nat_lt b count
-  links_within count false b n bs = is_block count b && kids_within count n bs
-
   abbrev pub links_fit : ℕ → Bool → List ℕ → Bool
-  links_fit count is_leaf bs = links_within count is_leaf (u32_at 4 bs) (u8_at 1 bs) (drop 8 bs)
+  links_fit count true bs = nat_lt (u32_at 4 bs) count
+  links_fit count false bs = is_block count (u32_at 4 bs) && kids_within count (u8_at 1 bs) (drop 8 bs)
 
 abbrev pub flaw_of : {A : Type 0} → Seen A → Option Rule
 flaw_of (wrong r) = Some r

@@ -1,6 +1,6 @@
 //! The entries of a leaf from one key to another, copied into a buffer.
 
-ghost use Rattle.std.specs.Prelude.{◌≡◌, ℕ, ◌+◌, ◌*◌, ◌≤◌, true, length};
+ghost use Rattle.std.specs.Prelude.{◌≡◌, ℕ, ◌+◌, ◌*◌, ◌≤◌, true, length, drop};
 ghost use Rattle.page.specs.Gathers.{Gathered, gather_on};
 ghost use Rattle.tree.specs.Fields.{u8_at};
 ghost use Rattle.tree.specs.Nodes.{Node, see_node};
@@ -19,7 +19,7 @@ fn gather_rows<K: Key>(
     taken: usize,
 ) -> (usize, Option<bool>)
     requires fits { taken * (K.Key.kind.width + 4) ≤ length buffer.old }
-    ensures walked { (result.0, result.1, buffer.new) ≡ gather_on K.Key.kind lo.now hi.now node.now.count node.now.rows.now taken buffer.old }
+    ensures walked { (result.0, result.1, buffer.new) ≡ gather_on K.Key.kind lo.now hi.now (u8_at 1 node.now.page.now) (drop 8 node.now.page.now) taken buffer.old }
     ensures within { result.0 * (K.Key.kind.width + 4) ≤ length buffer.new }
 {
     let size = K::key_width() + NUMBER;
@@ -47,16 +47,15 @@ fn gather_rows<K: Key>(
 /// Copies the entries of a leaf from `lo` to `hi` into the buffer, after those that stand there already.
 /// Answers how many stand there then, and how the range ends: with more to come, without, or not in this leaf.
 pub fn gather<K: Key>(
-    page: &[u8],
+    leaf: &NodeView<K>,
     lo: &K,
     hi: &K,
     buffer: &mut [u8],
     taken: usize,
 ) -> (usize, Option<bool>)
-    requires page { 8 + u8_at 1 page.now * (K.Key.kind.width + 4) ≤ length page.now }
-    requires fits { taken * (K.Key.kind.width + 4) ≤ length buffer.old }
-    ensures gathered { (n m low : ℕ) (d : Node K) → see_node K.Key.kind n m true low page.now ≡ right d → Gathered K.Key.kind lo.now hi.now d taken buffer.old result buffer.new }
+    requires { taken * (K.Key.kind.width + 4) ≤ length buffer.old }
+    ensures gathered { (n m low : ℕ) (d : Node K) → see_node K.Key.kind n m true low leaf.now.page.now ≡ right d → Gathered K.Key.kind lo.now hi.now d taken buffer.old result buffer.new }
     ensures within { result.0 * (K.Key.kind.width + 4) ≤ length buffer.new }
 {
-    gather_rows(&NodeView::of(page), lo, hi, buffer, taken)
+    gather_rows(leaf, lo, hi, buffer, taken)
 }

@@ -2,7 +2,7 @@
 
 ghost use Rattle.std.specs.Prelude.{◌≡◌, ◌+◌, ◌*◌, ◌≤◌, ◌&&◌, length, drop, ◌==◌, nat_le};
 ghost use Rattle.keys.specs.Rows.{rows_rise};
-ghost use Rattle.page.specs.Rows.{flaw_of, links_within};
+ghost use Rattle.page.specs.Rows.{flaw_of, links_fit};
 ghost use Rattle.tree.specs.Fields.{u8_at};
 ghost use Rattle.tree.specs.Nodes.{least, see_node, tag_of};
 
@@ -44,19 +44,20 @@ fn has_count(page: &[u8], low: u8, order: u8) -> bool
 
 /// Rule 4: the keys can be read and rise strictly.
 fn has_keys<K: Key>(node: &NodeView<K>) -> bool
-    ensures { result ≡ rows_rise K.Key.kind (K.Key.kind.width + 4) node.now.count node.now.rows.now }
+    ensures { result ≡ rows_rise K.Key.kind (K.Key.kind.width + 4) (u8_at 1 node.now.page.now) (drop 8 node.now.page.now) }
 {
-    rising::<K>(node.rows, K::key_width() + NUMBER, node.count)
+    rising::<K>(node.rows(), K::key_width() + NUMBER, node.count())
 }
 
 /// Rule 5: a leaf's link, or an inner node's children, are blocks of the store.
 fn has_links<K: Key>(node: &NodeView<K>, leaf: bool, count: u32) -> bool
-    ensures { result ≡ links_within K.Key.kind count leaf node.now.link node.now.count node.now.rows.now }
+    ensures { result ≡ links_fit K.Key.kind count leaf node.now.page.now }
 {
+    let link = node.link();
     if leaf {
-        return node.link < count;
+        return link < count;
     }
-    0 < node.link && node.link < count && node.all_blocks(count)
+    0 < link && link < count && node.all_blocks(count)
 }
 
 /// The first of rules 2 to 5 that a block breaks.

@@ -4,6 +4,7 @@ ghost use Rattle.std.specs.Prelude.{◌≡◌, ◌+◌, ◌*◌, ◌≤◌, leng
 ghost use Rattle.std.specs.Iterator.Adapters.{take_count, take_source};
 ghost use Rattle.std.specs.Slice.Iter.{chunks_exact_rest, chunks_exact_size};
 ghost use Rattle.page.specs.Rows.{kid_at, kids_within, place_at, record_at};
+ghost use Rattle.store.specs.Bytes.{Bytes};
 ghost use Rattle.tree.specs.Entries.{key_of, number_of};
 ghost use Rattle.tree.specs.Fields.{u8_at, u32_at};
 
@@ -17,45 +18,62 @@ use std::slice::ChunksExact;
 /// The bytes of an entry's number.
 pub const NUMBER: usize = 4;
 
-/// A node where it stands in a block: its link, how many entries it has, and the bytes of these and what follows.
+/// A node where it stands, in a block that has room for its entries.
 #[derive(Drop)]
 pub struct NodeView<'a, K: Key> {
-    pub(crate) link: u32,
-    pub(crate) count: usize,
-    pub(crate) rows: &'a [u8],
+    pub(crate) page: &'a [u8],
     keys: PhantomData<K>,
-    ghost whole: { count * (K.Key.kind.width + 4) ≤ length rows.now },
+    ghost whole: { 8 + u8_at 1 page.now * (K.Key.kind.width + 4) ≤ length page.now },
+    ghost bytes: { Bytes page.now },
 }
 
 impl<'a, K: Key> NodeView<'a, K> {
-    /// The node in a block that has room for its entries.
+    /// The node in a block.
     pub fn of(page: &'a [u8]) -> NodeView<'a, K>
         requires { 8 + u8_at 1 page.now * (K.Key.kind.width + 4) ≤ length page.now }
-        ensures link { result.link ≡ u32_at 4 page.now }
-        ensures count { result.count ≡ u8_at 1 page.now }
-        ensures rows { result.rows.now ≡ drop 8 page.now }
+        ensures { result.page.now ≡ page.now }
     {
-        let (_, rows) = page.split_at(ENTRIES);
         NodeView {
-            link: number_at::<4>(page, 4),
-            count: page[1] as usize,
-            rows,
+            page,
             keys: PhantomData,
         }
+    }
+
+    /// A leaf's next leaf, or an inner node's first child.
+    pub(crate) fn link(&self) -> u32
+        ensures { result ≡ u32_at 4 self.now.page.now }
+    {
+        number_at::<4>(self.page, 4)
+    }
+
+    /// How many entries there are.
+    pub(crate) fn count(&self) -> usize
+        ensures { result ≡ u8_at 1 self.now.page.now }
+    {
+        self.page[1] as usize
+    }
+
+    /// The bytes of the entries, and what follows them.
+    pub(crate) fn rows(&self) -> &'a [u8]
+        ensures { result.now ≡ drop 8 self.now.page.now }
+    {
+        let (_, rows) = self.page.split_at(ENTRIES);
+        rows
     }
 
     /// The bytes of each entry.
     pub(crate) fn entries(&self) -> Take<ChunksExact<'a, u8>>
         ensures size { chunks_exact_size (take_source result) ≡ K.Key.kind.width + 4 }
-        ensures count { take_count result ≡ self.now.count }
-        ensures rest { chunks_exact_rest (take_source result) ≡ self.now.rows.now }
+        ensures count { take_count result ≡ u8_at 1 self.now.page.now }
+        ensures rest { chunks_exact_rest (take_source result) ≡ drop 8 self.now.page.now }
     {
-        self.rows.chunks_exact(K::key_width() + NUMBER).take(self.count)
+        let size = K::key_width() + NUMBER;
+        self.rows().chunks_exact(size).take(self.count())
     }
 
     /// Whether the numbers of the entries are blocks past the head.
     pub fn all_blocks(&self, count: u32) -> bool
-        ensures { result ≡ kids_within K.Key.kind count self.now.count self.now.rows.now }
+        ensures { result ≡ kids_within K.Key.kind count (u8_at 1 self.now.page.now) (drop 8 self.now.page.now) }
     {
         for entry in self.entries() {
             let block = entry_number::<K>(entry);
@@ -68,9 +86,9 @@ impl<'a, K: Key> NodeView<'a, K> {
 
     /// The child for a key.
     pub fn child(&self, key: &K) -> u32
-        ensures { result ≡ kid_at K.Key.kind key.now self.now.link self.now.count self.now.rows.now }
+        ensures { result ≡ kid_at K.Key.kind key.now (u32_at 4 self.now.page.now) (u8_at 1 self.now.page.now) (drop 8 self.now.page.now) }
     {
-        let mut child = self.link;
+        let mut child = self.link();
         for entry in self.entries() {
             let Some(k) = entry_key::<K>(entry) else {
                 return child;
@@ -85,7 +103,7 @@ impl<'a, K: Key> NodeView<'a, K> {
 
     /// How many entries are up to a key.
     pub fn place(&self, key: &K) -> usize
-        ensures { result ≡ place_at K.Key.kind key.now 0 self.now.count self.now.rows.now }
+        ensures { result ≡ place_at K.Key.kind key.now 0 (u8_at 1 self.now.page.now) (drop 8 self.now.page.now) }
     {
         for (i, entry) in self.entries().enumerate() {
             let Some(k) = entry_key::<K>(entry) else {
@@ -95,17 +113,21 @@ impl<'a, K: Key> NodeView<'a, K> {
                 return i;
             }
         }
-        self.count
+        self.count()
     }
 
     /// The record of a key.
     pub fn record(&self, key: &K) -> Option<u32>
-        ensures { result ≡ record_at K.Key.kind key.now self.now.count self.now.rows.now }
+        ensures { result ≡ record_at K.Key.kind key.now (u8_at 1 self.now.page.now) (drop 8 self.now.page.now) }
     {
         for entry in self.entries() {
             let k = entry_key::<K>(entry)?;
             if k >= *key {
-                return if *key < k { None } else { Some(entry_number::<K>(entry)) };
+                return if *key < k {
+                    None
+                } else {
+                    Some(entry_number::<K>(entry))
+                };
             }
         }
         None

@@ -98,9 +98,5 @@ pub fn tally<S: Store>(rt: &HostRuntime, store: &S) -> Result<(), Failure> {
 }
 
 fn print_fault(rt: &HostRuntime, fault: Fault) -> Result<(), Failure> {
-    let cause = fault.cause.number();
-    let block = fault.block;
-    let depth = fault.depth;
-    println!(rt; "fault cause={cause} block={block} depth={depth}")?;
-    Ok(())
+    Ok(println!(rt; "fault {fault}")?)
 }

@@ -4,13 +4,12 @@ use crate::card::Card;
 use crate::complaint::Failure;
 use crate::words::{key, number, number_to};
 use keys::text::Text;
+use page::rows::NUMBER;
 use store::store::Store;
-use tree::refusal::{Refusal, Refused};
+use tree::refusal::{RangeRefusal, Refusal, Refused};
 
 /// The longest buffer of a range.
 const LONGEST_BUFFER: u32 = 1_048_576;
-/// The bytes of an entry's number.
-const NUMBER: usize = 4;
 
 /// Makes an empty index.
 pub fn format<K: Text>(rt: &HostRuntime, card: &mut Card, order: &[u8]) -> Result<(), Failure> {
@@ -50,13 +49,15 @@ pub fn range<K: Text>(
             println!(rt; "range entries={entries} more={more} reads={reads}")?;
             print_entries::<K>(rt, buffer.as_slice(), entries)
         }
-        Err(refused) => {
-            let entries = refused.entries;
-            let reads = refused.reads;
-            print_refusal(rt, refused.refusal)?;
-            match refused.refusal {
-                Refusal::Unfit | Refusal::Crossed => println!(rt; " reads={reads}")?,
-                _ => println!(rt; " entries={entries} reads={reads}")?,
+        Err(Refused {
+            refusal: RangeRefusal { refusal, entries },
+            reads,
+        }) => {
+            match refusal {
+                Refusal::Unfit | Refusal::Crossed => {
+                    println!(rt; "refused {refusal} reads={reads}")?
+                }
+                _ => println!(rt; "refused {refusal} entries={entries} reads={reads}")?,
             }
             print_entries::<K>(rt, buffer.as_slice(), entries)
         }
@@ -86,24 +87,6 @@ pub fn count<K: Text>(rt: &HostRuntime, card: &mut Card) -> Result<(), Failure> 
 
 /// Prints a refusal with the reads made before it.
 fn print_refused(rt: &HostRuntime, refused: Refused) -> Result<(), Failure> {
-    let reads = refused.reads;
-    print_refusal(rt, refused.refusal)?;
-    println!(rt; " reads={reads}")?;
-    Ok(())
-}
-
-/// Prints a refusal's number, then what it carries.
-fn print_refusal(rt: &HostRuntime, refusal: Refusal) -> Result<(), Failure> {
-    let number = refusal.number();
-    match refusal {
-        Refusal::Unreadable(fault) => {
-            let cause = fault.cause.number();
-            let block = fault.block;
-            let depth = fault.depth;
-            print!(rt; "refused {number} cause={cause} block={block} depth={depth}")?;
-        }
-        Refusal::Broken(rule, block) => print!(rt; "refused {number} rule={rule} block={block}")?,
-        _ => print!(rt; "refused {number}")?,
-    }
-    Ok(())
+    let Refused { refusal, reads } = refused;
+    Ok(println!(rt; "refused {refusal} reads={reads}")?)
 }

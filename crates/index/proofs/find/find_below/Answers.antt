@@ -48,4 +48,4 @@ returns g c =
     let m' = g.S.Store.meaning c.read_head.new.store in
     let d = c.in_ok-head.head in
     find_step g.K.Key.kind m m' e.after c.args.key.now d e.answer
-    ∙ find_reached g.K.Key.kind g.met.K.Key.lawful m' (g.S.Store.meaning c.reach_leaf.new.store) d.order c.args.key.now (d.levels - 1) d.root c.reach_leaf.new.page c.in_ok-reach_leaf.ensures.reached c.record.result (rw (c.of.ensures.count, c.of.ensures.rows) at c.record.ensures)
+    ∙ find_reached g.K.Key.kind g.met.K.Key.lawful m' (g.S.Store.meaning c.reach_leaf.new.store) d.order c.args.key.now (d.levels - 1) d.root c.reach_leaf.new.page c.in_ok-reach_leaf.ensures.reached c.record.result (rw c.of.ensures at c.record.ensures)

@@ -52,7 +52,7 @@ loop-level-preserved g c =
       c.loop-level.invariant.0
           ∙ (inner_step g.K.Key.kind c.args.key.now (g.S.Store.meaning c.loop-level.store) c.loop-level.top c.args.order c.loop-level.block
           c.loop-level.page c.read_node.new.page (g.S.Store.meaning c.read_node.new.store) (Ok tt) (c.args.levels - c.loop-level._level)
-          e (omega arith) refl c.child-block.result (rw (c.of.ensures.link, c.of.ensures.count, c.of.ensures.rows) at c.child-block.ensures)
+          e (omega arith) refl c.child-block.result (rw c.of.ensures at c.child-block.ensures)
           ∙ ap (λ (h : ℕ). run (g.S.Store.meaning c.read_node.new.store) (leaf_from g.K.Key.kind (g.S.Store.meaning c.read_node.new.store).count c.args.order c.args.key.now h false c.child-block.result)) d),
       omega (arith, c.read_node.auto.page),
       omega arith,

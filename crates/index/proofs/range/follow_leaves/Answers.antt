@@ -20,7 +20,7 @@ leaves-init g c =
 pub returns-in-Some : goal.returns-in-Some
 returns-in-Some g c d l =
     let G = c.leaves.invariant.5 d l in
-    let A = c.gather-number.ensures.gathered (g.S.Store.meaning c.args.store.now).count c.args.order G.leaf.low G.d G.leaf.seen in
+    let A = c.gather-number.ensures.gathered (g.S.Store.meaning c.args.store.now).count c.args.order G.leaf.low G.d (rw c.of.ensures G.leaf.seen) in
     ends_here g.K.Key.kind c.args.lo.now c.args.hi.now c.args.order c.args.buffer.now g.met.K.Key.lawful
     _ _ (g.S.Store.meaning c.leaves.store) c.leaves.page c.leaves.buffer c.leaves.taken c.leaves.fuel G c.leaves.auto.buffer (omega (arith, c.leaves.invariant.3, c.leaves.auto.buffer))
     c.gather-number.result c.gather-number.new.buffer A c.in-Some.more c.in-Some.is
@@ -28,7 +28,7 @@ returns-in-Some g c d l =
 pub returns-then-link-eq0 : goal.returns-then-link-eq0
 returns-then-link-eq0 g c d l =
     let G = c.leaves.invariant.5 d l in
-    let A = c.gather-number.ensures.gathered (g.S.Store.meaning c.args.store.now).count c.args.order G.leaf.low G.d G.leaf.seen in
+    let A = c.gather-number.ensures.gathered (g.S.Store.meaning c.args.store.now).count c.args.order G.leaf.low G.d (rw c.of.ensures G.leaf.seen) in
     ends_last g.K.Key.kind c.args.lo.now c.args.hi.now c.args.order c.args.buffer.now g.met.K.Key.lawful
     _ _ (g.S.Store.meaning c.leaves.store) c.leaves.page c.leaves.buffer c.leaves.taken c.leaves.fuel G c.leaves.auto.buffer (omega (arith, c.leaves.invariant.3, c.leaves.auto.buffer))
     c.gather-number.result c.gather-number.new.buffer A c.in_default.is c.number_at-link.result c.number_at-link.ensures c.if-link-eq0.true
@@ -36,7 +36,7 @@ returns-then-link-eq0 g c d l =
 pub returns-then-fuel-eq0 : goal.returns-then-fuel-eq0
 returns-then-fuel-eq0 g c d l =
     let G = c.leaves.invariant.5 d l in
-    let A = c.gather-number.ensures.gathered (g.S.Store.meaning c.args.store.now).count c.args.order G.leaf.low G.d G.leaf.seen in
+    let A = c.gather-number.ensures.gathered (g.S.Store.meaning c.args.store.now).count c.args.order G.leaf.low G.d (rw c.of.ensures G.leaf.seen) in
     goes_round g.K.Key.kind c.args.lo.now c.args.hi.now c.args.order c.args.buffer.now g.met.K.Key.lawful
     _ _ (g.S.Store.meaning c.leaves.store) c.leaves.page c.leaves.buffer c.leaves.taken c.leaves.fuel G c.leaves.auto.buffer (omega (arith, c.leaves.invariant.3, c.leaves.auto.buffer))
     c.gather-number.result c.gather-number.new.buffer A c.in_default.is c.number_at-link.result c.number_at-link.ensures c.if-link-eq0.false c.if-fuel-eq0.true
@@ -44,7 +44,7 @@ returns-then-fuel-eq0 g c d l =
 pub returns-in-Err : goal.returns-in-Err
 returns-in-Err g c d l =
     let G = c.leaves.invariant.5 d l in
-    let A = c.gather-number.ensures.gathered (g.S.Store.meaning c.args.store.now).count c.args.order G.leaf.low G.d G.leaf.seen in
+    let A = c.gather-number.ensures.gathered (g.S.Store.meaning c.args.store.now).count c.args.order G.leaf.low G.d (rw c.of.ensures G.leaf.seen) in
     next_stops g.K.Key.kind c.args.lo.now c.args.hi.now c.args.order c.args.buffer.now g.met.K.Key.lawful
     _ _ (g.S.Store.meaning c.leaves.store) c.leaves.page c.leaves.buffer c.leaves.taken c.leaves.fuel G c.leaves.auto.buffer (omega (arith, c.leaves.invariant.3, c.leaves.auto.buffer))
     c.gather-number.result c.gather-number.new.buffer A c.in_default.is c.number_at-link.result c.number_at-link.ensures c.if-link-eq0.false (omega (arith, c.if-fuel-eq0.false)) (sym c.leaves.invariant.4)
@@ -66,7 +66,7 @@ leaves-preserved g c =
       ap (λ (x : Meaning). x.count) e.tallies ∙ c.leaves.invariant.4,
       λ d l.
           let G = c.leaves.invariant.5 d l in
-          let A = c.gather-number.ensures.gathered (g.S.Store.meaning c.args.store.now).count c.args.order G.leaf.low G.d G.leaf.seen in
+          let A = c.gather-number.ensures.gathered (g.S.Store.meaning c.args.store.now).count c.args.order G.leaf.low G.d (rw c.of.ensures G.leaf.seen) in
           next_goes κ c.args.lo.now c.args.hi.now c.args.order c.args.buffer.now g.met.K.Key.lawful
           _ _ m c.leaves.page c.leaves.buffer c.leaves.taken c.leaves.fuel G c.leaves.auto.buffer (omega (arith, c.leaves.invariant.3, c.leaves.auto.buffer))
           c.gather-number.result c.gather-number.new.buffer A c.in_default.is c.number_at-link.result c.number_at-link.ensures c.if-link-eq0.false (omega (arith, c.if-fuel-eq0.false)) (sym c.leaves.invariant.4)

@@ -1,4 +1,4 @@
-use Rattle.std.proofs.Common.{length, ◌∙◌, rules, arith}
+use Rattle.std.proofs.Common.{length, sym, ◌∙◌, rules}
 use Rattle.keys.proofs.Comparing.{lt_less}
 use Rattle.page.proofs.Cuts.{cut, cut_none}
 use Rattle.page.proofs.GatherSteps.{gather_end, gather_full, gather_next, gather_one, one_fits}
@@ -30,15 +30,23 @@ returns-then-buffer-at g c =
     let x = cut g.K.Key.kind c.loop-entry.entry-iterator c.next.new.self c.in-Some.entry c.loop-entry.invariant.ready c.in-Some.ensures.steps in
     let a = lt_less g.K.Key.kind g.met.K.Ord.matches_partial_cmp g.met.K.Key.ordered c.in-Some-entry_key.k c.args.lo.now in
     let b = lt_less g.K.Key.kind g.met.K.Ord.matches_partial_cmp g.met.K.Key.ordered c.args.hi.now c.in-Some-entry_key.k in
-    let e = gather_full g.K.Key.kind c.args.lo.now c.args.hi.now c.loop-entry.entry-iterator c.next.new.self c.in-Some.entry.now x c.loop-entry.number c.loop-entry.buffer in
-    search rules
+    record {
+      walked = sym (c.loop-entry.invariant.same ∙ gather_full g.K.Key.kind c.args.lo.now c.args.hi.now c.loop-entry.entry-iterator c.next.new.self c.in-Some.entry.now x c.loop-entry.number c.loop-entry.buffer
+          c.key_width-size.result c.in-Some-entry_key.k c.key_width-size.ensures c.in-Some-entry_key.ensures (c.if-lt.ensures ∙ a) (c.if-lt-2.ensures ∙ b) c.if-buffer-at.true);
+      within = c.loop-entry.invariant.room;
+    }
 
 pub loop-entry-preserved : goal.loop-entry-preserved
 loop-entry-preserved g c =
     let x = cut g.K.Key.kind c.loop-entry.entry-iterator c.next.new.self c.in-Some.entry c.loop-entry.invariant.ready c.in-Some.ensures.steps in
     let a = lt_less g.K.Key.kind g.met.K.Ord.matches_partial_cmp g.met.K.Key.ordered c.in-Some-entry_key.k c.args.lo.now in
     let b = lt_less g.K.Key.kind g.met.K.Ord.matches_partial_cmp g.met.K.Key.ordered c.args.hi.now c.in-Some-entry_key.k in
-    record { same = c.loop-entry.invariant.same ∙ gather_one g.K.Key.kind c.args.lo.now c.args.hi.now c.loop-entry.entry-iterator c.next.new.self c.in-Some.entry.now x c.loop-entry.number c.loop-entry.buffer c.key_width-size.result c.overlay.new.slice c.in-Some-entry_key.k c.key_width-size.ensures c.in-Some-entry_key.ensures (c.if-lt.ensures ∙ a) (c.if-lt-2.ensures ∙ b) (omega arith) c.overlay.ensures; ready = x.ready; room = one_fits c.loop-entry.number c.key_width-size.result g.K.Key.kind.width (length c.loop-entry.buffer) (length c.overlay.new.slice) c.key_width-size.ensures c.loop-entry.invariant.room (omega arith) c.overlay.auto.slice }
+    record {
+      same = c.loop-entry.invariant.same ∙ gather_one g.K.Key.kind c.args.lo.now c.args.hi.now c.loop-entry.entry-iterator c.next.new.self c.in-Some.entry.now x c.loop-entry.number c.loop-entry.buffer
+          c.key_width-size.result c.overlay.new.slice c.in-Some-entry_key.k c.key_width-size.ensures c.in-Some-entry_key.ensures (c.if-lt.ensures ∙ a) (c.if-lt-2.ensures ∙ b) c.if-buffer-at.false c.overlay.ensures;
+      ready = x.ready;
+      room = one_fits c.loop-entry.number c.key_width-size.result g.K.Key.kind.width (length c.loop-entry.buffer) (length c.overlay.new.slice) c.key_width-size.ensures c.loop-entry.invariant.room c.if-buffer-at.false c.overlay.auto.slice;
+    }
 
 pub returns : goal.returns
 returns g c =

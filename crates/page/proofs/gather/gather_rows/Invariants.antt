@@ -1,6 +1,7 @@
-use Rattle.std.proofs.Common.{◌≡◌, ◌+◌, ◌*◌, ◌≤◌, length}
+use Rattle.std.proofs.Common.{◌≡◌, ◌+◌, ◌*◌, ◌≤◌, length, drop}
 use Rattle.std.specs.Iterator.Adapters.{take_count}
 use Rattle.page.specs.Gathers.{gather_on}
+use Rattle.tree.specs.Fields.{u8_at}
 use Rattle.page.proofs.Cuts.{Ready, left}
 use Rattle.page.proofs.gather.gather_rows.Given as goal
 
@@ -9,7 +10,7 @@ invariant-loop-entry g l =
     let κ = g.K.Key.kind in
     let s = l.entry-iterator in
     record {
-      same : gather_on κ l.lo l.hi l.node.count l.node.rows.now l.taken l.initial.buffer ≡ gather_on κ l.lo l.hi (take_count s) (left s) l.number l.buffer;
+      same : gather_on κ l.lo l.hi (u8_at 1 l.node.page.now) (drop 8 l.node.page.now) l.taken l.initial.buffer ≡ gather_on κ l.lo l.hi (take_count s) (left s) l.number l.buffer;
       ready : Ready κ s;
       room : l.number * (κ.width + 4) ≤ length l.buffer;
     }

@@ -1,6 +1,7 @@
-use Rattle.std.proofs.Common.{◌≡◌}
+use Rattle.std.proofs.Common.{◌≡◌, drop}
 use Rattle.std.specs.Iterator.Adapters.{take_count}
 use Rattle.page.specs.Rows.{kid_at}
+use Rattle.tree.specs.Fields.{u8_at, u32_at}
 use Rattle.page.proofs.Cuts.{Ready, left}
 use Rattle.page.proofs.rows.NodeView.child.Given as goal
 
@@ -8,4 +9,4 @@ abbrev pub invariant-loop-entry : goal.invariant-loop-entry
 invariant-loop-entry g l =
     let κ = g.K.Key.kind in
     let s = l.entry-iterator in
-    record { same : kid_at κ l.key l.self.link l.self.count l.self.rows.now ≡ kid_at κ l.key l.child (take_count s) (left s); ready : Ready κ s }
+    record { same : kid_at κ l.key (u32_at 4 l.self.page.now) (u8_at 1 l.self.page.now) (drop 8 l.self.page.now) ≡ kid_at κ l.key l.child (take_count s) (left s); ready : Ready κ s }

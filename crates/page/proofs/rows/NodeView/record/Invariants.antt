@@ -1,6 +1,7 @@
-use Rattle.std.proofs.Common.{◌≡◌}
+use Rattle.std.proofs.Common.{◌≡◌, drop}
 use Rattle.std.specs.Iterator.Adapters.{take_count}
 use Rattle.page.specs.Rows.{record_at}
+use Rattle.tree.specs.Fields.{u8_at}
 use Rattle.page.proofs.Cuts.{Ready, left}
 use Rattle.page.proofs.rows.NodeView.record.Given as goal
 
@@ -8,4 +9,4 @@ abbrev pub invariant-loop-entry : goal.invariant-loop-entry
 invariant-loop-entry g l =
     let κ = g.K.Key.kind in
     let s = l.entry-iterator in
-    record { same : record_at κ l.key l.self.count l.self.rows.now ≡ record_at κ l.key (take_count s) (left s); ready : Ready κ s }
+    record { same : record_at κ l.key (u8_at 1 l.self.page.now) (drop 8 l.self.page.now) ≡ record_at κ l.key (take_count s) (left s); ready : Ready κ s }
