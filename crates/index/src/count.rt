@@ -9,11 +9,11 @@ ghost use Rattle.tree.specs.Plans.{bare, run, told};
 ghost use Rattle.tree.specs.Plans.Plan.{done};
 ghost use Rattle.tree.specs.Walks.{with_head};
 
-use crate::reading::{LONGEST, read_head};
+use crate::reading::read_head;
 use crate::telling::tell;
 use keys::key::Key;
 use page::head::is_fit;
-use store::store::Store;
+use store::store::{LONGEST, Store};
 use tree::refusal::{Refusal, Refused};
 
 /// What the head says.

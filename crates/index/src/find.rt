@@ -9,12 +9,12 @@ ghost use Rattle.tree.specs.Plans.{bare, run, told};
 ghost use Rattle.tree.specs.Walks.{with_head};
 
 use crate::leaf::reach_leaf;
-use crate::reading::{LONGEST, read_head};
+use crate::reading::read_head;
 use crate::telling::tell;
 use keys::key::Key;
 use page::head::is_fit;
 use page::rows::NodeView;
-use store::store::Store;
+use store::store::{LONGEST, Store};
 use tree::refusal::{Refusal, Refused};
 
 /// Reads the head, and from there on to the leaf.

@@ -5,12 +5,11 @@ ghost use Rattle.tree.specs.SoundCalls.{Empty};
 ghost use Rattle.tree.specs.Calls.{format_after, format_plan, formatted, laid, next_free};
 ghost use Rattle.tree.specs.Plans.{bare, run, told};
 
-use crate::reading::LONGEST;
 use crate::telling::tell;
 use keys::key::Key;
 use page::fill::{fill_empty_leaf, fill_free, fill_head};
 use page::head::{is_fit, order_fits};
-use store::store::Store;
+use store::store::{LONGEST, Store};
 use tree::head::Head;
 use tree::refusal::{Refusal, Refused};
 

@@ -13,14 +13,14 @@ ghost use Rattle.tree.specs.Walks.{with_head};
 ghost use Rattle.tree.specs.Ranges.{chase, follow, range_below, range_plan, range_told, standing};
 
 use crate::leaf::reach_leaf;
-use crate::reading::{LONGEST, read_head, read_node};
+use crate::reading::{read_head, read_node};
 use crate::telling::tell;
 use keys::key::Key;
 use page::fields::number_at;
 use page::gather::gather;
 use page::head::is_fit;
 use page::rows::NodeView;
-use store::store::Store;
+use store::store::{LONGEST, Store};
 use tree::refusal::{RangeRefusal, Refusal, Refused};
 use tree::rule::Rule;
 

@@ -13,9 +13,6 @@ use store::store::Store;
 use tree::head::Head;
 use tree::refusal::Refusal;
 
-/// The longest block of any store.
-pub const LONGEST: usize = 512;
-
 /// Reads a node into the page and examines it.
 pub fn read_node<S: Store, K: Key>(
     store: &mut S,

@@ -49,10 +49,12 @@ pub fn range<K: Text>(
             println!(rt; "range entries={entries} more={more} reads={reads}")?;
             print_entries::<K>(rt, buffer.as_slice(), entries)
         }
-        Err(Refused {
-            refusal: RangeRefusal { refusal, entries },
-            reads,
-        }) => {
+        Err(
+            Refused {
+                refusal: RangeRefusal { refusal, entries },
+                reads,
+            },
+        ) => {
             match refusal {
                 Refusal::Unfit | Refusal::Crossed => {
                     println!(rt; "refused {refusal} reads={reads}")?

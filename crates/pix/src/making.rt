@@ -9,11 +9,7 @@ use std::alloc::Global;
 use std::fs;
 use store::bench::BenchStore;
 use store::plain::PlainStore;
-
-/// The most blocks of a card, and the most bytes of a block.
-const MOST_BLOCKS: u32 = 1024;
-
-const LONGEST: u32 = 512;
+use store::store::{LONGEST, MOST_BLOCKS};
 
 /// The card that the words after `card` name.
 pub fn named_card(heap: Global, words: &[&[u8]]) -> Result<Card, Failure> {
@@ -31,8 +27,8 @@ pub fn named_card(heap: Global, words: &[&[u8]]) -> Result<Card, Failure> {
 
 /// A plain store of `n` blocks of `b` zero bytes.
 fn blank(heap: Global, n: &[u8], b: &[u8]) -> Result<PlainStore, Failure> {
-    let count = number_to(n, MOST_BLOCKS)?;
-    let size = number_to(b, LONGEST)?;
+    let count = number_to(n, MOST_BLOCKS as u32)?;
+    let size = number_to(b, LONGEST as u32)?;
     let bytes = vec![in heap; 0u8; count as usize * size as usize]?;
     let marks = vec![in heap; 0u8; count as usize]?;
     Ok(PlainStore::new(bytes, marks, size))
@@ -47,9 +43,9 @@ fn window(store: PlainStore, s: &[u8], t: &[u8]) -> Result<Window<PlainStore>, C
 
 /// The card that the words after `open` name: a file's bytes.
 pub fn opened_card(rt: &HostRuntime, file: &[u8], b: &[u8]) -> Result<Card, Failure> {
-    let size = number_to(b, LONGEST)?;
+    let size = number_to(b, LONGEST as u32)?;
     let name = std::str::from_utf8(file).map_err(|_| Complaint::CannotOpen)?;
     let bytes = fs::read(rt, name).map_err(|_| Complaint::CannotOpen)?;
-    let marks = vec![in rt.alloc(); 0u8; MOST_BLOCKS as usize]?;
+    let marks = vec![in rt.alloc(); 0u8; MOST_BLOCKS]?;
     Ok(Card::Plain(PlainStore::new(bytes, marks, size)))
 }

@@ -5,10 +5,9 @@ ghost use Rattle.std.specs.List.{AllByRecursion, list_any};
 ghost use Rattle.tree.specs.Inserts.{put_all, repeated};
 ghost use Rattle.update.specs.Batches.{stacked};
 
-use crate::LONGEST;
 use arrayvec::ArrayVec;
 use std::marker::Model;
-use store::store::Store;
+use store::store::{LONGEST, Store};
 
 /// A block, and a page whose front is to be written to it.
 #[derive(Default, Drop)]

@@ -9,13 +9,13 @@ ghost use Rattle.tree.specs.Nodes.{tag_of};
 ghost use Rattle.update.specs.Batches.{stacked};
 ghost use Rattle.update.specs.Memory.{Sprung};
 
-use crate::LONGEST;
 use crate::batch::Batch;
 use crate::growth::Growth;
 use crate::node::{Image, Shape};
 use crate::rows::Row;
 use keys::key::Key;
 use page::fill::fill_node;
+use store::store::LONGEST;
 
 /// A node to be written.
 pub fn push_node(batch: &mut Batch, size: usize, block: u32, image: &Image)

@@ -8,6 +8,3 @@ pub mod growth;
 pub mod node;
 pub mod rows;
 pub mod spare;
-
-/// The most bytes that a block has.
-pub const LONGEST: usize = 512;
