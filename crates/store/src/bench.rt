@@ -9,6 +9,7 @@ const BYTES: usize = 8192;
 /// The bytes of 64 blocks of 128 bytes, one after another.
 #[derive(Drop)]
 pub struct Blocks {
+    // An array and no `Vec`: this store takes no memory from the heap.
     bytes: [u8; BYTES],
 }
 

@@ -6,6 +6,7 @@ ghost use Rattle.store.specs.Bytes.{Bytes};
 /// Blocks that lie one after another in memory, with a mark byte for each.
 #[derive(Drop)]
 pub struct PlainStore {
+    // Two vectors, as callers hand them in: the blocks are given back as one slice with no marks in it.
     bytes: Vec<u8>,
     marks: Vec<u8>,
     count: u32,

@@ -13,6 +13,7 @@ use store::store::Store;
 pub(crate) fn number_of(bytes: &[u8], block: u32) -> u16
     ensures { result ≡ check_number bytes.now block }
 {
+    // `sum` asks that the sum fits, and this one goes round.
     let start = (block % 65536) as u16;
     bytes
         .iter()
