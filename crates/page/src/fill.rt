@@ -49,7 +49,7 @@ fn put_block(page: &mut [u8], tag: Tag, count: u8, link: u32, entries: &[u8])
 {
     let [a, b, c, d] = number_bytes::<4>(link);
     let (start, rest) = page.split_at_mut(ENTRIES);
-    start.copy_from_slice(&[tag.byte(), count, 0, 0, a, b, c, d]);
+    start.copy_from_slice(&[tag as u8, count, 0, 0, a, b, c, d]);
     put_front(rest, entries);
 }
 

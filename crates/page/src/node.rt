@@ -1,4 +1,4 @@
-//! A node in a block: examined, and searched.
+//! A node in a block, examined.
 
 ghost use Rattle.std.specs.Prelude.{◌≡◌, ◌+◌, ◌*◌, ◌≤◌, ◌&&◌, length, drop, ◌==◌, nat_le};
 ghost use Rattle.keys.specs.Rows.{rows_rise};
@@ -14,6 +14,7 @@ use tree::rule::Rule;
 
 /// Where the entries begin.
 pub const ENTRIES: usize = 8;
+
 /// The least entries of a node.
 pub fn least_entries(order: u8, top: bool, leaf: bool) -> u8
     ensures { result ≡ least order top leaf }
@@ -31,7 +32,7 @@ fn has_tag(page: &[u8], leaf: bool) -> bool
     requires { 8 ≤ length page.now }
     ensures { result ≡ (u8_at 0 page.now == tag_of leaf) }
 {
-    page[0] == Tag::of_node(leaf).byte()
+    page[0] == Tag::of_node(leaf) as u8
 }
 
 /// Rule 3: the count is within its bounds.

@@ -62,7 +62,7 @@ impl<'a, K: Key> NodeView<'a, K> {
     }
 
     /// The bytes of each entry.
-    pub(crate) fn entries(&self) -> Take<ChunksExact<'a, u8>>
+    pub fn entries(&self) -> Take<ChunksExact<'a, u8>>
         ensures size { chunks_exact_size (take_source result) ≡ K.Key.kind.width + 4 }
         ensures count { take_count result ≡ u8_at 1 self.now.page.now }
         ensures rest { chunks_exact_rest (take_source result) ≡ drop 8 self.now.page.now }
@@ -135,7 +135,7 @@ impl<'a, K: Key> NodeView<'a, K> {
 }
 
 /// The key of an entry.
-pub(crate) fn entry_key<K: Key>(entry: &[u8]) -> Option<K>
+pub fn entry_key<K: Key>(entry: &[u8]) -> Option<K>
     requires { length entry.now ≡ K.Key.kind.width + 4 }
     ensures { result ≡ key_of K.Key.kind entry.now }
 {
@@ -143,7 +143,7 @@ pub(crate) fn entry_key<K: Key>(entry: &[u8]) -> Option<K>
 }
 
 /// The number of an entry.
-fn entry_number<K: Key>(entry: &[u8]) -> u32
+pub fn entry_number<K: Key>(entry: &[u8]) -> u32
     requires { length entry.now ≡ K.Key.kind.width + 4 }
     ensures { result ≡ number_of K.Key.kind entry.now }
 {

@@ -19,11 +19,4 @@ impl Tag {
     {
         if leaf { Tag::Leaf } else { Tag::Inner }
     }
-
-    /// The byte that says it.
-    pub fn byte(self) -> u8
-        ensures { result ≡ byte_of self }
-    {
-        self as u8
-    }
 }

@@ -19,7 +19,7 @@ fn examine_free(page: &[u8], block: u32, count: u32) -> Result<u32, Refusal>
     requires { 8 ≤ length page.now }
     ensures { result ≡ free_answer None block (see_free count page.now) }
 {
-    if page[0] != Tag::Free.byte() {
+    if page[0] != Tag::Free as u8 {
         return Err(Refusal::Broken(Rule::Tag, block));
     }
     if page[1] != 0 {
