@@ -54,6 +54,7 @@ fn put_block(page: &mut [u8], tag: Tag, count: u8, link: u32, entries: &[u8])
 }
 
 /// Fills the page with a leaf of no entries and no next leaf.
+#[tactic(auto, unfolding(tree::specs::Entries::write_entries))]
 pub fn fill_empty_leaf<K: Key>(page: &mut [u8])
     requires { 8 ≤ length page.old }
     ensures { page.new ≡ write_node K.Key.kind (length page.old) true (record { link = 0; entries = [] }) }

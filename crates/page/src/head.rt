@@ -73,6 +73,7 @@ fn keeps_rule_1<K: Key>(head: &Head, count: u32, size: usize) -> bool
 }
 
 /// The head, where it is one of this key kind and keeps rule 1.
+#[tactic(auto, unfolding(tree::specs::Heads::see_head))]
 pub fn examine_head<K: Key>(page: &[u8], count: u32) -> Result<Head, Refusal>
     requires { 64 ≤ length page.now }
     ensures { result ≡ see_head K.Key.kind count (length page.now) page.now }
