@@ -2,8 +2,8 @@
 
 ghost use Rattle.std.specs.Prelude.{◌≡◌, ◌+◌, ◌-◌, ◌*◌, ◌≤◌, true, ◌++◌, length, take, drop};
 
-use crate::node::Image;
 use keys::key::Key;
+use page::fill::Image;
 use page::rows::NUMBER;
 use std::marker::PhantomData;
 use store::bytes::overlay;
