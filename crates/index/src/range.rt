@@ -37,6 +37,7 @@ fn follow_leaves<S: Store, K: Key>(
 {
     let mut taken = 0;
     let mut fuel = reader.store.count() - 2;
+    // Counted down by hand: a `for` over the leaves would end at a place that is never reached.
     'leaves: loop {
         let (number, end) = gather(&NodeView::of(reader.page()), lo, hi, buffer, taken);
         taken = number;
@@ -103,6 +104,7 @@ fn range_entries<S: Store, K: Key>(
 
 /// Fills the buffer with the entries from `lo` to `hi`, both included, as far as they fit, and answers how many there are and
 /// whether more remain, with the reads made.
+// How many and whether more remain, in a pair, as every call answers.
 pub fn range<S: Store, K: Key>(
     store: &mut S,
     lo: &K,

@@ -68,6 +68,7 @@ impl<'a, S: Store, K: Key> BlockReader<'a, S, K> {
     }
 
     /// Reads a node into the page and examines it.
+    // Booleans, as the definitions have them: a node is a leaf or not, and the first of its way or not.
     pub fn node(&mut self, block: u32, leaf: bool, top: bool) -> Result<(), Refusal>
         ensures read { Reading K.Key.kind leaf (S.Store.meaning self.old.store.now) top self.old.order block self.old.page.now self.new.page.now (S.Store.meaning self.new.store.now) result }
         ensures order { self.new.order ≡ self.old.order }

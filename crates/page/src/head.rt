@@ -16,6 +16,7 @@ use tree::rule::Rule;
 pub(crate) const VERSION: u32 = 1;
 
 /// The head's numbers, whatever they are.
+// Four functions look at one page in turn: a view of it would be no plainer than their bound.
 fn head_of(page: &[u8]) -> Head
     requires { 18 ≤ length page.now }
     ensures { result ≡ head_of page.now }
