@@ -110,6 +110,17 @@ module _ {K : Type 0} (κ : Kind K) (k : K) (m : Meaning) (top : Bool) (M b : �
       ap (run m) (walk_leaf κ m.count M k top b h l)
       ∙ stops κ m top true M b old new after R.filled R.tallies tt (λ d. done d) e (o ∙ answer_is κ true m top M b old new after r R)
 
+  -- the leaf at the end of a walk
+  pub leaf_reached : (m₀ : Meaning) (h₀ root : ℕ) → run m₀ (leaf_from κ m₀.count M k h₀ true root) ≡ run m (leaf_from κ m.count M k h top b) → m.count ≡ m₀.count
+      → Reading κ true m top M b old new after r → h ≡ 0 → Reached κ m₀ M k h₀ root r new after
+  leaf_reached m₀ h₀ root s n R l = by r refl
+    where
+      by : (x : Result Unit Refusal) → x ≡ r → Reached κ m₀ M k h₀ root x new after
+      by (Ok u) e =
+          let w = leaf_step R l e in
+          (w.0, s ∙ w.1, record { low = least M top true; seen = ap (λ (x : ℕ). see_node κ x M true (least M top true) new) (sym n) ∙ w.2 })
+      by (Err x) e = s ∙ leaf_stop R l x e
+
 module _ {K : Type 0} (κ : Kind K) (m after : Meaning) (tallies : after ≡ tallied m) where
   abbrev top_of : Result Head Refusal
   top_of = see_head κ m.count m.size (m.contents 0)

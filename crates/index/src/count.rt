@@ -9,7 +9,7 @@ ghost use Rattle.tree.specs.Plans.{bare, run, told};
 ghost use Rattle.tree.specs.Plans.Plan.{done};
 ghost use Rattle.tree.specs.Walks.{with_head};
 
-use crate::reading::read_head;
+use crate::reading::BlockReader;
 use crate::telling::tell;
 use keys::key::Key;
 use page::head::is_fit;
@@ -17,11 +17,12 @@ use store::store::{LONGEST, Store};
 use tree::refusal::{Refusal, Refused};
 
 /// What the head says.
-fn counted<S: Store, K: Key>(store: &mut S, page: &mut [u8]) -> Result<u32, Refusal>
-    requires { (length page.old ≡ (S.Store.meaning store.old).size) × (64 ≤ (S.Store.meaning store.old).size) }
-    ensures { run (S.Store.meaning store.old) (with_head K.Key.kind (S.Store.meaning store.old).count (S.Store.meaning store.old).size tt (λ h. done h.key_count)) ≡ (bare result, S.Store.meaning store.new) }
+fn counted<S: Store, K: Key>(reader: &mut BlockReader<S, K>) -> Result<u32, Refusal>
+    ensures counted { run (S.Store.meaning reader.old.store.now) (with_head K.Key.kind (S.Store.meaning reader.old.store.now).count (S.Store.meaning reader.old.store.now).size tt (λ h. done h.key_count)) ≡ (bare result, S.Store.meaning reader.new.store.now) }
+    ensures same_store { reader.new.store.ghost_name ≡ reader.old.store.ghost_name }
+    ensures same_page { reader.new.page.ghost_name ≡ reader.old.page.ghost_name }
 {
-    let head = read_head::<S, K>(store, page)?;
+    let head = reader.head()?;
     Ok(head.key_count)
 }
 
@@ -34,7 +35,7 @@ fn count_keys<S: Store, K: Key>(store: &mut S) -> Result<u32, Refusal>
         return Err(Refusal::Unfit);
     }
     let mut page = [0u8; LONGEST];
-    counted::<S, K>(store, &mut page[0..size as usize])
+    counted::<S, K>(&mut BlockReader::new(store, &mut page[..size as usize]))
 }
 
 /// The number of keys, with the reads made.

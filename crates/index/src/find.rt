@@ -8,8 +8,7 @@ ghost use Rattle.tree.specs.Calls.{find_below, find_from, find_plan};
 ghost use Rattle.tree.specs.Plans.{bare, run, told};
 ghost use Rattle.tree.specs.Walks.{with_head};
 
-use crate::leaf::reach_leaf;
-use crate::reading::read_head;
+use crate::reading::BlockReader;
 use crate::telling::tell;
 use keys::key::Key;
 use page::head::is_fit;
@@ -19,16 +18,16 @@ use tree::refusal::{Refusal, Refused};
 
 /// Reads the head, and from there on to the leaf.
 fn find_below<S: Store, K: Key>(
-    store: &mut S,
+    reader: &mut BlockReader<S, K>,
     key: &K,
-    page: &mut [u8],
 ) -> Result<Option<u32>, Refusal>
-    requires { (length page.old ≡ (S.Store.meaning store.old).size) × (64 ≤ (S.Store.meaning store.old).size) }
-    ensures { run (S.Store.meaning store.old) (with_head K.Key.kind (S.Store.meaning store.old).count (S.Store.meaning store.old).size tt (find_below K.Key.kind (S.Store.meaning store.old).count (S.Store.meaning store.old).size key.now)) ≡ (bare result, S.Store.meaning store.new) }
+    ensures found { run (S.Store.meaning reader.old.store.now) (with_head K.Key.kind (S.Store.meaning reader.old.store.now).count (S.Store.meaning reader.old.store.now).size tt (find_below K.Key.kind (S.Store.meaning reader.old.store.now).count (S.Store.meaning reader.old.store.now).size key.now)) ≡ (bare result, S.Store.meaning reader.new.store.now) }
+    ensures same_store { reader.new.store.ghost_name ≡ reader.old.store.ghost_name }
+    ensures same_page { reader.new.page.ghost_name ≡ reader.old.page.ghost_name }
 {
-    let head = read_head::<S, K>(store, page)?;
-    reach_leaf::<S, K>(store, key, head.order, head.levels, head.root, page)?;
-    Ok(NodeView::of(page).record(key))
+    let head = reader.head()?;
+    reader.reach_leaf(key, head.levels, head.root)?;
+    Ok(NodeView::of(reader.page()).record(key))
 }
 
 /// The record of a key, by its plan alone.
@@ -40,7 +39,10 @@ fn find_record<S: Store, K: Key>(store: &mut S, key: &K) -> Result<Option<u32>, 
         return Err(Refusal::Unfit);
     }
     let mut page = [0u8; LONGEST];
-    find_below(store, key, &mut page[0..size as usize])
+    find_below(
+        &mut BlockReader::new(store, &mut page[..size as usize]),
+        key,
+    )
 }
 
 /// The record of a key, or none, with the reads made.

@@ -12,8 +12,7 @@ ghost use Rattle.tree.specs.Plans.{run};
 ghost use Rattle.tree.specs.Walks.{with_head};
 ghost use Rattle.tree.specs.Ranges.{chase, follow, range_below, range_plan, range_told, standing};
 
-use crate::leaf::reach_leaf;
-use crate::reading::{read_head, read_node};
+use crate::reading::BlockReader;
 use crate::telling::tell;
 use keys::key::Key;
 use page::fields::number_at;
@@ -26,25 +25,26 @@ use tree::rule::Rule;
 
 /// Goes from leaf to leaf, the first of which stands in the page, and says how many entries then stand in the buffer.
 fn follow_leaves<S: Store, K: Key>(
-    store: &mut S,
+    reader: &mut BlockReader<S, K>,
     lo: &K,
     hi: &K,
-    order: u8,
-    page: &mut [u8],
     buffer: &mut [u8],
 ) -> Result<(usize, bool), RangeRefusal>
-    requires { (length page.old ≡ (S.Store.meaning store.old).size) × ((8 + order * (K.Key.kind.width + 4) ≤ (S.Store.meaning store.old).size) × ((8 + u8_at 1 page.old * (K.Key.kind.width + 4) ≤ length page.old) × (2 ≤ (S.Store.meaning store.old).count))) }
-    ensures { (d : Node K) → Leaf K.Key.kind (S.Store.meaning store.old).count order page.old d → RangeEnd K.Key.kind buffer.old result buffer.new (S.Store.meaning store.new) (run (S.Store.meaning store.old) (follow K.Key.kind lo.now hi.now (length buffer.old / (K.Key.kind.width + 4)) [] d (chase K.Key.kind (S.Store.meaning store.old).count order lo.now hi.now ((S.Store.meaning store.old).count - 2)))) }
+    requires { 8 + u8_at 1 reader.old.page.now * (K.Key.kind.width + 4) ≤ length reader.old.page.now × 2 ≤ (S.Store.meaning reader.old.store.now).count }
+    ensures followed { (d : Node K) → Leaf K.Key.kind (S.Store.meaning reader.old.store.now).count reader.old.order reader.old.page.now d → RangeEnd K.Key.kind buffer.old result buffer.new (S.Store.meaning reader.new.store.now) (run (S.Store.meaning reader.old.store.now) (follow K.Key.kind lo.now hi.now (length buffer.old / (K.Key.kind.width + 4)) [] d (chase K.Key.kind (S.Store.meaning reader.old.store.now).count reader.old.order lo.now hi.now ((S.Store.meaning reader.old.store.now).count - 2)))) }
+    ensures same_store { reader.new.store.ghost_name ≡ reader.old.store.ghost_name }
+    ensures same_page { reader.new.page.ghost_name ≡ reader.old.page.ghost_name }
 {
     let mut taken = 0;
-    let mut fuel = store.count() - 2;
+    let mut fuel = reader.store.count() - 2;
+    // Counted down by hand: a `for` over the leaves would end at a place that is never reached.
     'leaves: loop {
-        let (number, end) = gather(&NodeView::of(page), lo, hi, buffer, taken);
+        let (number, end) = gather(&NodeView::of(reader.page()), lo, hi, buffer, taken);
         taken = number;
         if let Some(more) = end {
             return Ok((taken, more));
         }
-        let link = number_at::<4>(page, 4);
+        let link = number_at::<4>(reader.page(), 4);
         if link == 0 {
             return Ok((taken, false));
         }
@@ -54,7 +54,7 @@ fn follow_leaves<S: Store, K: Key>(
                 entries: taken,
             });
         }
-        if let Err(refusal) = read_node::<S, K>(store, link, true, false, order, page) {
+        if let Err(refusal) = reader.node(link, true, false) {
             return Err(RangeRefusal {
                 refusal,
                 entries: taken,
@@ -66,18 +66,19 @@ fn follow_leaves<S: Store, K: Key>(
 
 /// Reads the head and the way to the first leaf, and goes on from there.
 fn range_below<S: Store, K: Key>(
-    store: &mut S,
+    reader: &mut BlockReader<S, K>,
     lo: &K,
     hi: &K,
-    page: &mut [u8],
     buffer: &mut [u8],
 ) -> Result<(usize, bool), RangeRefusal>
-    requires { (length page.old ≡ (S.Store.meaning store.old).size) × ((64 ≤ (S.Store.meaning store.old).size) × (2 ≤ (S.Store.meaning store.old).count)) }
-    ensures { RangeEnd K.Key.kind buffer.old result buffer.new (S.Store.meaning store.new) (run (S.Store.meaning store.old) (with_head K.Key.kind (S.Store.meaning store.old).count (S.Store.meaning store.old).size [] (range_below K.Key.kind (S.Store.meaning store.old).count lo.now hi.now (length buffer.old / (K.Key.kind.width + 4))))) }
+    requires { 2 ≤ (S.Store.meaning reader.old.store.now).count }
+    ensures ranged { RangeEnd K.Key.kind buffer.old result buffer.new (S.Store.meaning reader.new.store.now) (run (S.Store.meaning reader.old.store.now) (with_head K.Key.kind (S.Store.meaning reader.old.store.now).count (S.Store.meaning reader.old.store.now).size [] (range_below K.Key.kind (S.Store.meaning reader.old.store.now).count lo.now hi.now (length buffer.old / (K.Key.kind.width + 4))))) }
+    ensures same_store { reader.new.store.ghost_name ≡ reader.old.store.ghost_name }
+    ensures same_page { reader.new.page.ghost_name ≡ reader.old.page.ghost_name }
 {
-    let head = read_head::<S, K>(store, page)?;
-    reach_leaf::<S, K>(store, lo, head.order, head.levels, head.root, page)?;
-    follow_leaves::<S, K>(store, lo, hi, head.order, page, buffer)
+    let head = reader.head()?;
+    reader.reach_leaf(lo, head.levels, head.root)?;
+    follow_leaves(reader, lo, hi, buffer)
 }
 
 /// The entries of a range, by its plan alone.
@@ -97,11 +98,13 @@ fn range_entries<S: Store, K: Key>(
         return Err(Refusal::Crossed.into());
     }
     let mut page = [0u8; LONGEST];
-    range_below::<S, K>(store, lo, hi, &mut page[0..size as usize], buffer)
+    let mut reader = BlockReader::new(store, &mut page[..size as usize]);
+    range_below(&mut reader, lo, hi, buffer)
 }
 
 /// Fills the buffer with the entries from `lo` to `hi`, both included, as far as they fit, and answers how many there are and
 /// whether more remain, with the reads made.
+// How many and whether more remain, in a pair, as every call answers.
 pub fn range<S: Store, K: Key>(
     store: &mut S,
     lo: &K,

@@ -1,7 +1,7 @@
-//! Reading a block and examining it.
+//! Reading blocks into a page and examining them.
 
 ghost use Rattle.std.specs.Prelude.{◌≡◌, ◌+◌, ◌*◌, ◌≤◌, length};
-ghost use Rattle.index.specs.Readings.{Reading, head_answer};
+ghost use Rattle.index.specs.Readings.{Reading, head_answer, order_after};
 ghost use Rattle.store.specs.Calls.{refusal};
 ghost use Rattle.store.specs.Meaning.{tallied};
 ghost use Rattle.tree.specs.Heads.{see_head};
@@ -9,37 +9,79 @@ ghost use Rattle.tree.specs.Heads.{see_head};
 use keys::key::Key;
 use page::head::examine_head;
 use page::node::{flaw, least_entries};
+use std::marker::PhantomData;
 use store::store::Store;
 use tree::head::Head;
 use tree::refusal::Refusal;
 
-/// Reads a node into the page and examines it.
-pub fn read_node<S: Store, K: Key>(
-    store: &mut S,
-    block: u32,
-    leaf: bool,
-    top: bool,
-    order: u8,
-    page: &mut [u8],
-) -> Result<(), Refusal>
-    requires { (length page.old ≡ (S.Store.meaning store.old).size) × (8 + order * (K.Key.kind.width + 4) ≤ (S.Store.meaning store.old).size) }
-    ensures { Reading K.Key.kind leaf (S.Store.meaning store.old) top order block page.old page.new (S.Store.meaning store.new) result }
-{
-    let count = store.count();
-    store.read(block, page)?;
-    match flaw::<K>(page, leaf, least_entries(order, top, leaf), order, count) {
-        Some(rule) => Err(Refusal::Broken(rule, block)),
-        None => Ok(()),
-    }
+/// A store, a page as long as its blocks, and the most entries of a node, which the head says: 0 until it is read.
+#[derive(Drop)]
+pub struct BlockReader<'a, S: Store, K: Key> {
+    pub(crate) store: &'a mut S,
+    pub(crate) page: &'a mut [u8],
+    pub(crate) order: u8,
+    keys: PhantomData<K>,
+    ghost fits: { length page.now ≡ (S.Store.meaning store.now).size },
+    ghost wide: { 64 ≤ (S.Store.meaning store.now).size },
+    ghost room: { 8 + order * (K.Key.kind.width + 4) ≤ (S.Store.meaning store.now).size },
 }
 
-/// Reads the head into the page and examines it.
-pub fn read_head<S: Store, K: Key>(store: &mut S, page: &mut [u8]) -> Result<Head, Refusal>
-    requires { (length page.old ≡ (S.Store.meaning store.old).size) × (64 ≤ (S.Store.meaning store.old).size) }
-    ensures answer { result ≡ head_answer (refusal (S.Store.meaning store.old) 0 (S.Store.meaning store.old).size) (see_head K.Key.kind (S.Store.meaning store.old).count (S.Store.meaning store.old).size ((S.Store.meaning store.old).contents 0)) }
-    ensures after { S.Store.meaning store.new ≡ tallied (S.Store.meaning store.old) }
-{
-    let count = store.count();
-    store.read(0, page)?;
-    examine_head::<K>(page, count)
+impl<'a, S: Store, K: Key> BlockReader<'a, S, K> {
+    /// No block read yet.
+    pub fn new(store: &'a mut S, page: &'a mut [u8]) -> BlockReader<'a, S, K>
+        requires fits { length page.old ≡ (S.Store.meaning store.old).size }
+        requires wide { 64 ≤ (S.Store.meaning store.old).size }
+        ensures same_store { result.store.ghost_name ≡ store.entry.ghost_name }
+        ensures same_page { result.page.ghost_name ≡ page.entry.ghost_name }
+        ensures store { S.Store.meaning result.store.now ≡ S.Store.meaning store.old }
+        ensures page { result.page.now ≡ page.old }
+        ensures order { result.order ≡ 0 }
+    {
+        BlockReader {
+            store,
+            page,
+            order: 0,
+            keys: PhantomData,
+        }
+    }
+
+    /// The page.
+    pub fn page(&self) -> &[u8]
+        ensures { result.now ≡ self.now.page.now }
+    {
+        self.page
+    }
+
+    /// Reads the head into the page and examines it.
+    pub fn head(&mut self) -> Result<Head, Refusal>
+        ensures answer { result ≡ head_answer (refusal (S.Store.meaning self.old.store.now) 0 (S.Store.meaning self.old.store.now).size) (see_head K.Key.kind (S.Store.meaning self.old.store.now).count (S.Store.meaning self.old.store.now).size ((S.Store.meaning self.old.store.now).contents 0)) }
+        ensures after { S.Store.meaning self.new.store.now ≡ tallied (S.Store.meaning self.old.store.now) }
+        ensures order { self.new.order ≡ order_after result self.old.order }
+        ensures same_store { self.new.store.ghost_name ≡ self.old.store.ghost_name }
+        ensures same_page { self.new.page.ghost_name ≡ self.old.page.ghost_name }
+    {
+        let count = self.store.count();
+        self.store.read(0, self.page)?;
+        let head = examine_head::<K>(self.page, count)?;
+        self.order = head.order;
+        Ok(head)
+    }
+
+    /// Reads a node into the page and examines it.
+    // Booleans, as the definitions have them: a node is a leaf or not, and the first of its way or not.
+    pub fn node(&mut self, block: u32, leaf: bool, top: bool) -> Result<(), Refusal>
+        ensures read { Reading K.Key.kind leaf (S.Store.meaning self.old.store.now) top self.old.order block self.old.page.now self.new.page.now (S.Store.meaning self.new.store.now) result }
+        ensures order { self.new.order ≡ self.old.order }
+        ensures same_store { self.new.store.ghost_name ≡ self.old.store.ghost_name }
+        ensures same_page { self.new.page.ghost_name ≡ self.old.page.ghost_name }
+    {
+        let count = self.store.count();
+        let page = &mut *self.page;
+        self.store.read(block, page)?;
+        let low = least_entries(self.order, top, leaf);
+        match flaw::<K>(page, leaf, low, self.order, count) {
+            Some(rule) => Err(Refusal::Broken(rule, block)),
+            None => Ok(()),
+        }
+    }
 }

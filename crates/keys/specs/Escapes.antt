@@ -1,6 +1,6 @@
 -- Going through text with escapes.
-use Rattle.std.specs.Prelude.{◌≡◌, ℕ, zero, suc, ◌+◌, ◌-◌, ◌<◌, List, [], ◌∷◌, ◌++◌, length, drop, Some, None, Option, refl}
-use Rattle.std.proofs.Common.{sym, ap, ◌∙◌, append_assoc, append-nil, length-append, arith}
+use Rattle.std.specs.Prelude.{◌≡◌, ℕ, zero, suc, ◌<◌, List, [], ◌∷◌, ◌++◌, length, drop, Some, None, Option, refl}
+use Rattle.std.proofs.Common.{sym, ap, ◌∙◌, append_assoc, append-nil, arith}
 use Rattle.std.proofs.lemmas.Bool.{ne_eqb}
 use Rattle.numerals.specs.Hexadecimals.{in_front}
 use Rattle.keys.specs.NameText.{first_byte, first_length, unescaped}
@@ -27,28 +27,22 @@ unfolding unescaped
 nothing_fits cs h = rw (ne_eqb (length cs) 0 (λ e. omega arith))
 
 -- a byte more
-pub one_more : (xs cs rest : List ℕ) (b : ℕ) → 0 < length cs → length xs < 8 → first_byte cs ≡ Some b → rest ≡ drop (first_length cs) cs
-    → after xs (unescaped (8 - length xs) cs) ≡ after (xs ++ (b ∷ [])) (unescaped (8 - length (xs ++ (b ∷ []))) rest)
-one_more xs cs rest b h m e d =
-    let l : length (xs ++ (b ∷ [])) ≡ length xs + 1 = length-append xs (b ∷ []) in
-    let q : 8 - length xs ≡ suc (8 - length (xs ++ (b ∷ []))) = omega arith in
-    let u = unescaped (8 - length (xs ++ (b ∷ []))) in
-    ap (λ k. after xs (unescaped k cs)) q
-    ∙ (ap (after xs) (more (8 - length (xs ++ (b ∷ []))) cs h)
-    ∙ (ap (λ o. after xs (in_front o (u (drop (first_length cs) cs)))) e
-    ∙ (in_front_after xs b (u (drop (first_length cs) cs)) ∙ ap (λ ys. after (xs ++ (b ∷ [])) (u ys)) (sym d))))
+pub one_more : (j k : ℕ) (xs cs rest : List ℕ) (b : ℕ) → j ≡ suc k → 0 < length cs → first_byte cs ≡ Some b → rest ≡ drop (first_length cs) cs
+    → after xs (unescaped j cs) ≡ after (xs ++ (b ∷ [])) (unescaped k rest)
+one_more j k xs cs rest b q h e d =
+    ap (λ (i : ℕ). after xs (unescaped i cs)) q
+    ∙ (ap (after xs) (more k cs h)
+    ∙ (ap (λ o. after xs (in_front o (unescaped k (drop (first_length cs) cs)))) e
+    ∙ (in_front_after xs b (unescaped k (drop (first_length cs) cs)) ∙ ap (λ ys. after (xs ++ (b ∷ [])) (unescaped k ys)) (sym d))))
 
 -- a byte that cannot be read
-pub no_more : (xs cs : List ℕ) → 0 < length cs → first_byte cs ≡ None → after xs (unescaped (8 - length xs) cs) ≡ None
-no_more xs cs h e = by (8 - length xs)
-  where
-    by : (k : ℕ) → after xs (unescaped k cs) ≡ None
-    by zero = ap (after xs) (nothing_fits cs h)
-    by (suc k) = ap (after xs) (more k cs h) ∙ ap (λ o. after xs (in_front o (unescaped k (drop (first_length cs) cs)))) e
+pub no_more : (k : ℕ) (xs cs : List ℕ) → 0 < length cs → first_byte cs ≡ None → after xs (unescaped k cs) ≡ None
+no_more zero xs cs h e = ap (after xs) (nothing_fits cs h)
+no_more (suc k) xs cs h e = ap (after xs) (more k cs h) ∙ ap (λ o. after xs (in_front o (unescaped k (drop (first_length cs) cs)))) e
 
--- eight bytes, and text left
-pub too_many : (xs cs : List ℕ) → 0 < length cs → length xs ≡ 8 → after xs (unescaped (8 - length xs) cs) ≡ None
-too_many xs cs h m = let q : 8 - length xs ≡ 0 = omega arith in ap (λ k. after xs (unescaped k cs)) q ∙ ap (after xs) (nothing_fits cs h)
+-- as many bytes as there may be, and text left
+pub too_many : (k : ℕ) (xs cs : List ℕ) → 0 < length cs → k ≡ 0 → after xs (unescaped k cs) ≡ None
+too_many k xs cs h q = ap (λ (i : ℕ). after xs (unescaped i cs)) q ∙ ap (after xs) (nothing_fits cs h)
 
 pub empty : (k : ℕ) → unescaped k [] ≡ Some []
 unfolding unescaped

@@ -17,6 +17,7 @@ pub trait Key: Copy + Ord {
     ghost kind: { Kind Self };
 
     /// The width, where the kind is not known.
+    // Beside the constants: a clause that cites a bound's constant is refused, so generic code asks these two.
     fn key_width() -> usize
         ensures { result ≡ kind.width };
 

@@ -41,6 +41,7 @@ fn climb<K: Key>(rows: &[u8], stride: usize, count: usize) -> bool
         return false;
     };
     let mut last = first;
+    // By index and not by chunks: entries may overlap, or all stand at one place.
     for i in 1..count {
         let Some(key) = key_at::<K>(rows, i * stride) else {
             return false;

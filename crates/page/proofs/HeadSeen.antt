@@ -6,14 +6,6 @@ use Rattle.tree.specs.declared.head.Head.{Head}
 use Rattle.tree.specs.declared.refusal.Refusal.TheVariants.{Broken, NoLetters, OtherVersion, OtherKind}
 use Rattle.tree.specs.Heads.{has_letters, has_version, head_of, rule_1, see_head}
 
-pub head_seen : {K : Type 0} (κ : Kind K) (n size : ℕ) (bs : List ℕ) (d : Head) (p q r t : Bool)
-    → p ≡ has_letters bs → q ≡ has_version bs → r ≡ eqb (get_or bs 5 0) κ.code → d ≡ head_of bs → t ≡ rule_1 κ n size d
-    → cond p (cond q (cond r (cond t (Ok d) (Err (Broken HeadNumbers 0))) (Err OtherKind)) (Err OtherVersion)) (Err NoLetters) ≡ see_head κ n size bs
-unfolding see_head
-head_seen κ n size bs d p q r t ep eq er ed et =
-    let f : t ≡ rule_1 κ n size (head_of bs) = et ∙ ap (rule_1 κ n size) ed in
-    rw (ep, eq, er, f) (ap (λ (x : Head). cond (has_letters bs) (cond (has_version bs) (cond (eqb (get_or bs 5 0) κ.code) (cond (rule_1 κ n size (head_of bs)) (Ok x) (Err (Broken HeadNumbers 0))) (Err OtherKind)) (Err OtherVersion)) (Err NoLetters)) ed)
-
 pub rule_1_kept : {K : Type 0} (κ : Kind K) (n size : ℕ) (bs : List ℕ) (d : Head) → see_head κ n size bs ≡ Ok d → rule_1 κ n size d ≡ true
 unfolding see_head
 rule_1_kept κ n size bs d h = by (has_letters bs) (has_version bs) (eqb (get_or bs 5 0) κ.code) (rule_1 κ n size (head_of bs)) refl h

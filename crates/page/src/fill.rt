@@ -54,6 +54,7 @@ fn put_block(page: &mut [u8], tag: Tag, count: u8, link: u32, entries: &[u8])
 }
 
 /// Fills the page with a leaf of no entries and no next leaf.
+#[tactic(auto, unfolding(tree::specs::Entries::write_entries))]
 pub fn fill_empty_leaf<K: Key>(page: &mut [u8])
     requires { 8 ≤ length page.old }
     ensures { page.new ≡ write_node K.Key.kind (length page.old) true (record { link = 0; entries = [] }) }
@@ -61,12 +62,22 @@ pub fn fill_empty_leaf<K: Key>(page: &mut [u8])
     put_block(page, Tag::Leaf, 0, 0, &[]);
 }
 
-/// Fills the page with a node whose entries' bytes are given.
-pub fn fill_node(page: &mut [u8], leaf: bool, count: u8, link: u32, entries: &[u8])
-    requires { 8 + length entries.now ≤ length page.old }
-    ensures { page.new ≡ padded (length page.old) (tag_of leaf ∷ count ∷ 0 ∷ 0 ∷ (big_endian 4 link ++ entries.now)) }
+/// What a node's block is to show, its entries in bytes.
+#[derive(Clone, Copy)]
+pub struct Image<'a> {
+    pub leaf: bool,
+    pub count: u8,
+    pub link: u32,
+    pub entries: &'a [u8],
+}
+
+/// Fills the page with a node.
+pub fn fill_node(page: &mut [u8], image: &Image)
+    requires { 8 + length image.now.entries.now ≤ length page.old }
+    ensures { page.new ≡ padded (length page.old) (tag_of image.now.leaf ∷ image.now.count ∷ 0 ∷ 0 ∷ (big_endian 4 image.now.link ++ image.now.entries.now)) }
 {
-    put_block(page, Tag::of_node(leaf), count, link, entries);
+    let tag = Tag::of_node(image.leaf);
+    put_block(page, tag, image.count, image.link, image.entries);
 }
 
 /// Fills the page with a free block.

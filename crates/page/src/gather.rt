@@ -46,6 +46,7 @@ fn gather_rows<K: Key>(
 
 /// Copies the entries of a leaf from `lo` to `hi` into the buffer, after those that stand there already.
 /// Answers how many stand there then, and how the range ends: with more to come, without, or not in this leaf.
+// Both are answers: the number stands wherever the range ends.
 pub fn gather<K: Key>(
     leaf: &NodeView<K>,
     lo: &K,

@@ -16,6 +16,7 @@ use tree::rule::Rule;
 pub(crate) const VERSION: u32 = 1;
 
 /// The head's numbers, whatever they are.
+// Four functions look at one page in turn: a view of it would be no plainer than their bound.
 fn head_of(page: &[u8]) -> Head
     requires { 18 ≤ length page.now }
     ensures { result ≡ head_of page.now }
@@ -73,6 +74,7 @@ fn keeps_rule_1<K: Key>(head: &Head, count: u32, size: usize) -> bool
 }
 
 /// The head, where it is one of this key kind and keeps rule 1.
+#[tactic(auto, unfolding(tree::specs::Heads::see_head))]
 pub fn examine_head<K: Key>(page: &[u8], count: u32) -> Result<Head, Refusal>
     requires { 64 ≤ length page.now }
     ensures { result ≡ see_head K.Key.kind count (length page.now) page.now }

@@ -62,6 +62,7 @@ fn has_links<K: Key>(node: &NodeView<K>, leaf: bool, count: u32) -> bool
 }
 
 /// The first of rules 2 to 5 that a block breaks.
+#[tactic(auto, using(crate::proofs::Seen::flaw_is, crate::proofs::Seen::count_fits))]
 pub fn flaw<K: Key>(page: &[u8], leaf: bool, low: u8, order: u8, count: u32) -> Option<Rule>
     requires { 8 + order * (K.Key.kind.width + 4) ≤ length page.now }
     ensures { result ≡ flaw_of (see_node K.Key.kind count order leaf low page.now) }

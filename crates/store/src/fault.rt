@@ -28,6 +28,7 @@ pub struct Fault {
 
 impl Cause {
     /// The number by which files and tools name the cause.
+    // By a name of its own, and no `From`: the numbers are asked for by name.
     pub fn number(self) -> u8
         ensures { result ≡ numbered self }
     {

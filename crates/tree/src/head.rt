@@ -9,6 +9,7 @@ pub struct Head {
     pub levels: u8,
     pub root: u32,
     /// The first block of the free list, or 0.
+    // A number and no `Option`: 0 is the file's own, and the definitions speak of it.
     pub first_free: u32,
     pub free_count: u32,
     pub key_count: u32,

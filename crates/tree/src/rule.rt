@@ -32,6 +32,7 @@ pub enum Rule {
 
 impl Rule {
     /// The number by which tools name the rule.
+    // By a name of its own, and no `From`: the numbers are asked for by name.
     pub fn number(self) -> u8
         ensures { result ≡ rule_number self }
     {

@@ -11,10 +11,10 @@ ghost use Rattle.update.specs.Memory.{Sprung};
 
 use crate::batch::Batch;
 use crate::growth::Growth;
-use crate::node::{Image, Shape};
 use crate::rows::Row;
+use crate::shape::Shape;
 use keys::key::Key;
-use page::fill::fill_node;
+use page::fill::{Image, fill_node};
 use store::store::LONGEST;
 
 /// A node to be written.
@@ -26,13 +26,7 @@ pub fn push_node(batch: &mut Batch, size: usize, block: u32, image: &Image)
     ensures len { length batch.new ≡ length batch.old + 1 }
 {
     let mut page = [0; LONGEST];
-    fill_node(
-        &mut page[..size],
-        image.leaf,
-        image.count,
-        image.link,
-        image.entries,
-    );
+    fill_node(&mut page[..size], image);
     batch.push(block, &page);
 }
 

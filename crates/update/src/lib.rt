@@ -5,6 +5,6 @@ pub mod batch;
 pub mod free;
 pub mod grow;
 pub mod growth;
-pub mod node;
 pub mod rows;
+pub mod shape;
 pub mod spare;

@@ -2,13 +2,14 @@
 
 ghost use Rattle.std.specs.Prelude.{◌≡◌, ◌+◌, ◌-◌, ◌*◌, ◌≤◌, true, ◌++◌, length, take, drop};
 
-use crate::node::Image;
 use keys::key::Key;
+use page::fill::Image;
 use page::rows::NUMBER;
 use std::marker::PhantomData;
 use store::bytes::overlay;
 
 /// Entries of a node, one after another in bytes.
+// The width is known at run time alone, so the count stands beside the bytes, and `whole` ties them.
 #[derive(Drop)]
 pub struct Row<'a, K: Key> {
     pub bytes: &'a [u8],

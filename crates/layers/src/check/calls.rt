@@ -25,6 +25,7 @@ impl<S: Store> Check<S> {
     }
 
     /// The store below.
+    // Its clause names the fields of this struct, so a trait for both layers would be no plainer.
     pub fn below(&mut self) -> &mut S
         ensures value { result.now ≡ self.old.below }
         ensures* follows { sem 𝓛 (follows (the_row S.row) S.row self.entry.ghost_name result.ghost_name (λ s. record { below = s; tally = self.old.tally })) }

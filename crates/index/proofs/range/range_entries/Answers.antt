@@ -1,9 +1,12 @@
-use Rattle.std.proofs.Common.{◌+◌, ◌/◌, [], length, Err, ap, subst, ◌∙◌}
+use Rattle.std.proofs.Common.{◌+◌, ◌/◌, [], length, Err, ap, subst, ◌∙◌, rules}
 use Rattle.keys.proofs.Comparing.{lt_less}
 use Rattle.index.proofs.RangeSteps.{nothing_yet, range_crossed, range_opens}
 use Rattle.index.proofs.Steps.{unfit}
 use Rattle.index.proofs.range.range_entries.Goals as goal
 use Rattle.index.specs.Rangings.{RangeEnd}
+use Rattle.store.specs.Meaning.{Meaning}
+use Rattle.tree.specs.Plans.{run}
+use Rattle.tree.specs.Ranges.{range_plan}
 
 pub returns-then-not-is_fit : goal.returns-then-not-is_fit
 returns-then-not-is_fit g c =
@@ -21,6 +24,6 @@ pub returns : goal.returns
 returns g c =
     let κ = g.K.Key.kind in
     let m = g.S.Store.meaning c.args.store.now in
-    subst (RangeEnd κ c.args.buffer.now c.range_below.result c.range_below.new.buffer (g.S.Store.meaning c.range_below.new.store))
-    (range_opens κ c.args.lo.now c.args.hi.now (length c.args.buffer.now / (κ.width + 4)) m c.count.result c.size-size.result c.count.ensures c.size-size.ensures c.if-not-is_fit.ensures (c.if-lt.ensures ∙ lt_less κ g.met.K.Ord.matches_partial_cmp g.met.K.Key.ordered c.args.hi.now c.args.lo.now))
-    c.range_below.ensures
+    let opens = range_opens κ c.args.lo.now c.args.hi.now (length c.args.buffer.now / (κ.width + 4)) m c.count.result c.size-size.result c.count.ensures c.size-size.ensures c.if-not-is_fit.ensures (c.if-lt.ensures ∙ lt_less κ g.met.K.Ord.matches_partial_cmp g.met.K.Key.ordered c.args.hi.now c.args.lo.now) in
+    let below = subst (RangeEnd κ c.args.buffer.now c.range_below.result c.range_below.new.buffer (g.S.Store.meaning c.range_below.new.reader.store.now)) opens (rw c.new-reader.ensures.store at c.range_below.ensures.ranged) in
+    subst (λ (after : Meaning). RangeEnd κ c.args.buffer.now c.range_below.result c.range_below.new.buffer after (run m (range_plan κ m.count m.size c.args.lo.now c.args.hi.now (length c.args.buffer.now / (κ.width + 4))))) (search rules) below

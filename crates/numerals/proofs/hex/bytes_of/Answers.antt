@@ -1,15 +1,11 @@
 use Rattle.std.proofs.Common.{◌≡◌, ℕ, ◌+◌, ◌*◌, List, [], ◌∷◌, ◌++◌, drop, vec_items, sym, refl, ap, ◌∙◌, arith}
 use Rattle.std.proofs.lemmas.Slice.{pushed}
 use Rattle.numerals.specs.Hexadecimals.{hex_bytes}
-use Rattle.numerals.proofs.HexSteps.{after, odd_digits, nothing_before, one_more, none_here, all_read, pair_is}
+use Rattle.numerals.proofs.HexSteps.{after, odd_digits, one_more, none_here, all_read, pair_is}
 use Rattle.numerals.proofs.hex.bytes_of.Goals as goal
 
 pub returns-then-not-is_empty : goal.returns-then-not-is_empty
 returns-then-not-is_empty c = sym (odd_digits c.args.digits.now (λ e. grind (arith, c.as_chunks.ensures.back_len)))
-
-pub loop-pair-init : goal.loop-pair-init
-loop-pair-init c =
-    nothing_before (hex_bytes c.args.digits.now) ∙ ap (λ (xs : List ℕ). after xs (hex_bytes c.args.digits.now)) (sym c.new-bytes.ensures.items)
 
 pub returns-in_default : goal.returns-in_default
 returns-in_default c = none_here c.args.digits.now (vec_items c.loop-pair.bytes) c.loop-pair.pair-index (omega arith) c.loop-pair.invariant

@@ -1,20 +1,11 @@
-//! Nodes to be written.
+//! How large the nodes of an index are.
 
 ghost use Rattle.std.specs.Prelude.{◌+◌, ◌*◌, ◌≤◌};
 
 use keys::key::Key;
 use std::marker::PhantomData;
 
-/// What a node's block is to show.
-#[derive(Clone, Copy)]
-pub struct Image<'a> {
-    pub leaf: bool,
-    pub count: u8,
-    pub link: u32,
-    pub entries: &'a [u8],
-}
-
-/// How large the nodes of an index are: the bytes of a block, and the most entries.
+/// The bytes of a block, and the most entries of a node.
 #[derive(Drop)]
 pub struct Shape<K: Key> {
     pub size: usize,
