@@ -24,7 +24,7 @@ fn gather_rows<K: Key>(
 {
     let size = K::key_width() + NUMBER;
     let mut number = taken;
-    for entry in node.entries() {
+    for entry in node.entries().each() {
         let Some(k) = entry_key::<K>(entry) else {
             return (number, None);
         };
