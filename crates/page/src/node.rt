@@ -16,6 +16,7 @@ use tree::rule::Rule;
 pub const ENTRIES: usize = 8;
 
 /// The least entries of a node.
+// Booleans, as the rules have them: a node is a leaf or not, and the first of its way or not.
 pub fn least_entries(order: u8, top: bool, leaf: bool) -> u8
     ensures { result ≡ least order top leaf }
 {
