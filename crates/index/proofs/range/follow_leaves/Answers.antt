@@ -32,7 +32,7 @@ returns-then-link-eq0-clause-followed g c d l =
     let A = c.gather-number.ensures.gathered (g.S.Store.meaning c.args.reader.now.store.now).count c.args.reader.now.order G.leaf.low G.d (rw (c.of.ensures ∙ c.page.ensures) G.leaf.seen) in
     ends_last g.K.Key.kind c.args.lo.now c.args.hi.now c.args.reader.now.order c.args.buffer.now g.met.K.Key.lawful
     _ _ (g.S.Store.meaning c.leaves.reader.store.now) c.leaves.reader.page.now c.leaves.buffer c.leaves.taken c.leaves.fuel G c.leaves.auto.buffer (omega (arith, c.leaves.invariant.1, c.leaves.auto.buffer))
-    c.gather-number.result c.gather-number.new.buffer A c.in_default.is c.number_at-link.result (rw c.page-in-leaves.ensures at c.number_at-link.ensures) c.if-link-eq0.true
+    c.gather-number.result c.gather-number.new.buffer A c.in_default.is c.number_at-link.result (rw c.page-in-leaves.ensures at c.number_at-link.ensures.bytes) c.if-link-eq0.true
 
 pub returns-then-fuel-eq0-clause-followed : goal.returns-then-fuel-eq0-clause-followed
 returns-then-fuel-eq0-clause-followed g c d l =
@@ -40,7 +40,7 @@ returns-then-fuel-eq0-clause-followed g c d l =
     let A = c.gather-number.ensures.gathered (g.S.Store.meaning c.args.reader.now.store.now).count c.args.reader.now.order G.leaf.low G.d (rw (c.of.ensures ∙ c.page.ensures) G.leaf.seen) in
     goes_round g.K.Key.kind c.args.lo.now c.args.hi.now c.args.reader.now.order c.args.buffer.now g.met.K.Key.lawful
     _ _ (g.S.Store.meaning c.leaves.reader.store.now) c.leaves.reader.page.now c.leaves.buffer c.leaves.taken c.leaves.fuel G c.leaves.auto.buffer (omega (arith, c.leaves.invariant.1, c.leaves.auto.buffer))
-    c.gather-number.result c.gather-number.new.buffer A c.in_default.is c.number_at-link.result (rw c.page-in-leaves.ensures at c.number_at-link.ensures) c.if-link-eq0.false c.if-fuel-eq0.true
+    c.gather-number.result c.gather-number.new.buffer A c.in_default.is c.number_at-link.result (rw c.page-in-leaves.ensures at c.number_at-link.ensures.bytes) c.if-link-eq0.false c.if-fuel-eq0.true
 
 pub returns-in-Err-clause-followed : goal.returns-in-Err-clause-followed
 returns-in-Err-clause-followed g c d l =
@@ -48,7 +48,7 @@ returns-in-Err-clause-followed g c d l =
     let A = c.gather-number.ensures.gathered (g.S.Store.meaning c.args.reader.now.store.now).count c.args.reader.now.order G.leaf.low G.d (rw (c.of.ensures ∙ c.page.ensures) G.leaf.seen) in
     next_stops g.K.Key.kind c.args.lo.now c.args.hi.now c.args.reader.now.order c.args.buffer.now g.met.K.Key.lawful
     _ _ (g.S.Store.meaning c.leaves.reader.store.now) c.leaves.reader.page.now c.leaves.buffer c.leaves.taken c.leaves.fuel G c.leaves.auto.buffer (omega (arith, c.leaves.invariant.1, c.leaves.auto.buffer))
-    c.gather-number.result c.gather-number.new.buffer A c.in_default.is c.number_at-link.result (rw c.page-in-leaves.ensures at c.number_at-link.ensures) c.if-link-eq0.false (omega (arith, c.if-fuel-eq0.false)) (sym c.leaves.invariant.2)
+    c.gather-number.result c.gather-number.new.buffer A c.in_default.is c.number_at-link.result (rw c.page-in-leaves.ensures at c.number_at-link.ensures.bytes) c.if-link-eq0.false (omega (arith, c.if-fuel-eq0.false)) (sym c.leaves.invariant.2)
     c.node.new.self.page.now (g.S.Store.meaning c.node.new.self.store.now) (Err c.in-Err.refusal) (rw c.leaves.invariant.3 at c.in-Err.ensures.read) c.in-Err.refusal refl
 
 pub leaves-preserved : goal.leaves-preserved
@@ -71,6 +71,6 @@ leaves-preserved g c =
           let A = c.gather-number.ensures.gathered (g.S.Store.meaning c.args.reader.now.store.now).count c.args.reader.now.order G.leaf.low G.d (rw (c.of.ensures ∙ c.page.ensures) G.leaf.seen) in
           next_goes κ c.args.lo.now c.args.hi.now c.args.reader.now.order c.args.buffer.now g.met.K.Key.lawful
           _ _ m c.leaves.reader.page.now c.leaves.buffer c.leaves.taken c.leaves.fuel G c.leaves.auto.buffer (omega (arith, v.1, c.leaves.auto.buffer))
-          c.gather-number.result c.gather-number.new.buffer A c.in_default.is c.number_at-link.result (rw c.page-in-leaves.ensures at c.number_at-link.ensures) c.if-link-eq0.false (omega (arith, c.if-fuel-eq0.false)) (sym v.2)
+          c.gather-number.result c.gather-number.new.buffer A c.in_default.is c.number_at-link.result (rw c.page-in-leaves.ensures at c.number_at-link.ensures.bytes) c.if-link-eq0.false (omega (arith, c.if-fuel-eq0.false)) (sym v.2)
           c.node.new.self.page.now m' (Ok tt) e refl,
     )
