@@ -49,19 +49,19 @@ fn follow_leaves<S: Store, K: Key>(
         if link == 0 {
             return Ok((taken, false));
         }
-        // By hand, here and below: with `?` alone the refusal would say that no entry stands in the buffer.
+        // Here and below the refusal says what stands in the buffer; `?` alone would say that nothing does.
         if fuel == 0 {
             return Err(RangeRefusal {
                 refusal: Refusal::Broken(Rule::Chain, link),
                 entries: taken,
             });
         }
-        if let Err(refusal) = reader.node(link, true, false) {
-            return Err(RangeRefusal {
+        reader
+            .node(link, true, false)
+            .map_err(|refusal| RangeRefusal {
                 refusal,
                 entries: taken,
-            });
-        }
+            })?;
         fuel -= 1;
     }
 }
