@@ -3,7 +3,7 @@
 ghost use Rattle.tree.specs.SoundCalls.{Counts};
 ghost use Rattle.tree.specs.Sound.{Sound};
 ghost use Rattle.tree.specs.Laws.{Exactly, Kept};
-ghost use Rattle.std.specs.Prelude.{◌≡◌, ◌^◌, ◌<◌, ◌≤◌, length};
+ghost use Rattle.std.specs.Prelude.{◌≡◌, ◌≤◌};
 ghost use Rattle.tree.specs.Calls.{count_plan};
 ghost use Rattle.tree.specs.Plans.{bare, run, told};
 ghost use Rattle.tree.specs.Plans.Plan.{done};
@@ -18,6 +18,7 @@ use tree::refusal::{Refusal, Refused};
 
 /// What the head says.
 fn counted<S: Store, K: Key>(reader: &mut BlockReader<S, K>) -> Result<u32, Refusal>
+    requires wide { 64 ≤ (S.Store.meaning reader.old.store.now).size }
     ensures counted { run (S.Store.meaning reader.old.store.now) (with_head K.Key.kind (S.Store.meaning reader.old.store.now).count (S.Store.meaning reader.old.store.now).size tt (λ h. done h.key_count)) ≡ (bare result, S.Store.meaning reader.new.store.now) }
     ensures same_store { reader.new.store.ghost_name ≡ reader.old.store.ghost_name }
     ensures same_page { reader.new.page.ghost_name ≡ reader.old.page.ghost_name }
@@ -34,8 +35,9 @@ fn count_keys<S: Store, K: Key>(store: &mut S) -> Result<u32, Refusal>
     if !is_fit(store.count(), size) {
         return Err(Refusal::Unfit);
     }
+    // On the stack: the cabinet has no heap.
     let mut page = [0u8; LONGEST];
-    counted::<S, K>(&mut BlockReader::new(store, &mut page[..size as usize]))
+    counted::<S, K>(&mut BlockReader::new(store, &mut page[..size as usize], 0))
 }
 
 /// The number of keys, with the reads made.

@@ -2,9 +2,9 @@
 
 ghost use Rattle.tree.specs.SoundCalls.{Finds};
 ghost use Rattle.tree.specs.Sound.{Sound};
-ghost use Rattle.std.specs.Prelude.{◌≡◌, ◌+◌, ◌-◌, ◌*◌, ◌^◌, ◌<◌, ◌≤◌, true, length};
+ghost use Rattle.std.specs.Prelude.{◌≡◌, ◌≤◌};
 ghost use Rattle.tree.specs.Laws.{Exactly, Kept};
-ghost use Rattle.tree.specs.Calls.{find_below, find_from, find_plan};
+ghost use Rattle.tree.specs.Calls.{find_below, find_plan};
 ghost use Rattle.tree.specs.Plans.{bare, run, told};
 ghost use Rattle.tree.specs.Walks.{with_head};
 
@@ -21,6 +21,7 @@ fn find_below<S: Store, K: Key>(
     reader: &mut BlockReader<S, K>,
     key: &K,
 ) -> Result<Option<u32>, Refusal>
+    requires wide { 64 ≤ (S.Store.meaning reader.old.store.now).size }
     ensures found { run (S.Store.meaning reader.old.store.now) (with_head K.Key.kind (S.Store.meaning reader.old.store.now).count (S.Store.meaning reader.old.store.now).size tt (find_below K.Key.kind (S.Store.meaning reader.old.store.now).count (S.Store.meaning reader.old.store.now).size key.now)) ≡ (bare result, S.Store.meaning reader.new.store.now) }
     ensures same_store { reader.new.store.ghost_name ≡ reader.old.store.ghost_name }
     ensures same_page { reader.new.page.ghost_name ≡ reader.old.page.ghost_name }
@@ -40,7 +41,7 @@ fn find_record<S: Store, K: Key>(store: &mut S, key: &K) -> Result<Option<u32>, 
     }
     let mut page = [0u8; LONGEST];
     find_below(
-        &mut BlockReader::new(store, &mut page[..size as usize]),
+        &mut BlockReader::new(store, &mut page[..size as usize], 0),
         key,
     )
 }

@@ -18,6 +18,7 @@ fn next_free(block: u32, count: u32) -> u32
     requires { (count ≤ 1024) × (block < count) }
     ensures { result ≡ next_free count block }
 {
+    // 0 is how the file writes that there is none.
     if block + 1 < count { block + 1 } else { 0 }
 }
 

@@ -1,6 +1,6 @@
 //! Range: the entries from one key to another.
 
-ghost use Rattle.std.specs.Prelude.{◌≡◌, ◌+◌, ◌-◌, ◌*◌, ◌/◌, ◌≤◌, true, [], length};
+ghost use Rattle.std.specs.Prelude.{◌≡◌, ◌+◌, ◌-◌, ◌*◌, ◌/◌, ◌≤◌, [], length};
 ghost use Rattle.index.specs.Leaves.{Leaf};
 ghost use Rattle.index.specs.Rangings.{RangeEnd};
 ghost use Rattle.store.specs.Bytes.{overlaid};
@@ -45,21 +45,23 @@ fn follow_leaves<S: Store, K: Key>(
             return Ok((taken, more));
         }
         let link = number_at::<4>(reader.page(), 4);
+        // 0 is how the file writes that there is none.
         if link == 0 {
             return Ok((taken, false));
         }
+        // Here and below the refusal says what stands in the buffer; `?` alone would say that nothing does.
         if fuel == 0 {
             return Err(RangeRefusal {
                 refusal: Refusal::Broken(Rule::Chain, link),
                 entries: taken,
             });
         }
-        if let Err(refusal) = reader.node(link, true, false) {
-            return Err(RangeRefusal {
+        reader
+            .node(link, true, false)
+            .map_err(|refusal| RangeRefusal {
                 refusal,
                 entries: taken,
-            });
-        }
+            })?;
         fuel -= 1;
     }
 }
@@ -71,7 +73,8 @@ fn range_below<S: Store, K: Key>(
     hi: &K,
     buffer: &mut [u8],
 ) -> Result<(usize, bool), RangeRefusal>
-    requires { 2 ≤ (S.Store.meaning reader.old.store.now).count }
+    requires wide { 64 ≤ (S.Store.meaning reader.old.store.now).size }
+    requires blocks { 2 ≤ (S.Store.meaning reader.old.store.now).count }
     ensures ranged { RangeEnd K.Key.kind buffer.old result buffer.new (S.Store.meaning reader.new.store.now) (run (S.Store.meaning reader.old.store.now) (with_head K.Key.kind (S.Store.meaning reader.old.store.now).count (S.Store.meaning reader.old.store.now).size [] (range_below K.Key.kind (S.Store.meaning reader.old.store.now).count lo.now hi.now (length buffer.old / (K.Key.kind.width + 4))))) }
     ensures same_store { reader.new.store.ghost_name ≡ reader.old.store.ghost_name }
     ensures same_page { reader.new.page.ghost_name ≡ reader.old.page.ghost_name }
@@ -98,13 +101,13 @@ fn range_entries<S: Store, K: Key>(
         return Err(Refusal::Crossed.into());
     }
     let mut page = [0u8; LONGEST];
-    let mut reader = BlockReader::new(store, &mut page[..size as usize]);
+    let mut reader = BlockReader::new(store, &mut page[..size as usize], 0);
     range_below(&mut reader, lo, hi, buffer)
 }
 
 /// Fills the buffer with the entries from `lo` to `hi`, both included, as far as they fit, and answers how many there are and
 /// whether more remain, with the reads made.
-// How many and whether more remain, in a pair, as every call answers.
+// How many and whether more remain: a pair and not a struct, as the answer of every call is one, and its plan's too.
 pub fn range<S: Store, K: Key>(
     store: &mut S,
     lo: &K,

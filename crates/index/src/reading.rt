@@ -14,7 +14,8 @@ use store::store::Store;
 use tree::head::Head;
 use tree::refusal::Refusal;
 
-/// A store, a page as long as its blocks, and the most entries of a node, which the head says: 0 until it is read.
+/// A store, a page as long as its blocks, and the most entries of a node: what the head says, or 0, of no head yet.
+// A number and not an Option: the rooms of a block are counted by it, and 0 asks for none.
 #[derive(Drop)]
 pub struct BlockReader<'a, S: Store, K: Key> {
     pub(crate) store: &'a mut S,
@@ -22,25 +23,24 @@ pub struct BlockReader<'a, S: Store, K: Key> {
     pub(crate) order: u8,
     keys: PhantomData<K>,
     ghost fits: { length page.now ≡ (S.Store.meaning store.now).size },
-    ghost wide: { 64 ≤ (S.Store.meaning store.now).size },
     ghost room: { 8 + order * (K.Key.kind.width + 4) ≤ (S.Store.meaning store.now).size },
 }
 
 impl<'a, S: Store, K: Key> BlockReader<'a, S, K> {
-    /// No block read yet.
-    pub fn new(store: &'a mut S, page: &'a mut [u8]) -> BlockReader<'a, S, K>
+    /// No block read yet. Where the head is still to be read, `order` is 0.
+    pub fn new(store: &'a mut S, page: &'a mut [u8], order: u8) -> BlockReader<'a, S, K>
         requires fits { length page.old ≡ (S.Store.meaning store.old).size }
-        requires wide { 64 ≤ (S.Store.meaning store.old).size }
+        requires room { 8 + order * (K.Key.kind.width + 4) ≤ (S.Store.meaning store.old).size }
         ensures same_store { result.store.ghost_name ≡ store.entry.ghost_name }
         ensures same_page { result.page.ghost_name ≡ page.entry.ghost_name }
         ensures store { S.Store.meaning result.store.now ≡ S.Store.meaning store.old }
         ensures page { result.page.now ≡ page.old }
-        ensures order { result.order ≡ 0 }
+        ensures order { result.order ≡ order }
     {
         BlockReader {
             store,
             page,
-            order: 0,
+            order,
             keys: PhantomData,
         }
     }
@@ -54,6 +54,7 @@ impl<'a, S: Store, K: Key> BlockReader<'a, S, K> {
 
     /// Reads the head into the page and examines it.
     pub fn head(&mut self) -> Result<Head, Refusal>
+        requires wide { 64 ≤ (S.Store.meaning self.old.store.now).size }
         ensures answer { result ≡ head_answer (refusal (S.Store.meaning self.old.store.now) 0 (S.Store.meaning self.old.store.now).size) (see_head K.Key.kind (S.Store.meaning self.old.store.now).count (S.Store.meaning self.old.store.now).size ((S.Store.meaning self.old.store.now).contents 0)) }
         ensures after { S.Store.meaning self.new.store.now ≡ tallied (S.Store.meaning self.old.store.now) }
         ensures order { self.new.order ≡ order_after result self.old.order }

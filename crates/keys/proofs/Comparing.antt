@@ -2,8 +2,9 @@
 use Rattle.std.proofs.Common.{◌≡◌, Bool, true, false, not, Some, Option, ap, ◌∙◌, refl}
 use Rattle.std.specs.declared.cmp.Ordering.{Ordering}
 use Rattle.std.specs.Cmp.{Agrees}
-use Rattle.std.specs.Ordering.{partial_lt, partial_ge, is_lt, is_ge, is_some_and}
-use Rattle.keys.specs.Kind.{Kind, order}
+use Rattle.std.specs.Ordering.{MatchOrdering, partial_lt, partial_ge, is_lt, is_ge, is_some_and}
+use Rattle.keys.specs.Kind.{Kind, Lawful, Only, order}
+use Rattle.keys.specs.Kind.Only.{lower, higher, same}
 use Rattle.keys.specs.Order.{standing}
 
 lower_is : (l g : Bool) → is_lt (standing l g) ≡ l
@@ -15,6 +16,15 @@ not_lower : (l g : Bool) → is_ge (standing l g) ≡ not l
 not_lower true g = refl
 not_lower false true = refl
 not_lower false false = refl
+
+-- where keys stand to one another says which of them is less, or that they are the same
+pub cases : {K : Type 0} (κ : Kind K) → Lawful κ → (a b : K) → MatchOrdering (order κ a b) (κ.less a b ≡ true) (a ≡ b) (κ.less b a ≡ true)
+cases κ L a b = go (L.just_one a b)
+  where
+    go : Only κ.less a b → MatchOrdering (order κ a b) (κ.less a b ≡ true) (a ≡ b) (κ.less b a ≡ true)
+    go (lower p q r) = rw p refl
+    go (higher p q r) = rw (q, p) refl
+    go (same p q r) = rw (q, r) p
 
 module _ {K : Type 0} (κ : Kind K) {part : K → K → Option Ordering} {whole : K → K → Ordering} (agree : Agrees part whole) (law : (a b : K) → whole a b ≡ order κ a b) (a b : K) where
   stand : part a b ≡ Some (order κ a b)

@@ -120,7 +120,6 @@ name_lawful =
           let p = bytes_parts 8 bs r.0 in read_bytes bs a r.1 ∙ eight_is bs p.0;
     }
 
--- a loop over characters: one more, and all
 pub name_ordered : (a b : Name)
     → ordering_then (nat_cmp a.first b.first) (ordering_then (nat_cmp a.second b.second) (ordering_then (nat_cmp a.third b.third) (ordering_then (nat_cmp a.fourth b.fourth)
     (ordering_then (nat_cmp a.fifth b.fifth) (ordering_then (nat_cmp a.sixth b.sixth) (ordering_then (nat_cmp a.seventh b.seventh) (nat_cmp a.eighth b.eighth))))))) ≡ order name_kind a b
@@ -128,6 +127,7 @@ name_ordered a b =
     then_standing a.first b.first _ _ _ (then_standing a.second b.second _ _ _ (then_standing a.third b.third _ _ _ (then_standing a.fourth b.fourth _ _ _
     (then_standing a.fifth b.fifth _ _ _ (then_standing a.sixth b.sixth _ _ _ (then_standing a.seventh b.seventh _ _ _ (last_standing a.eighth b.eighth)))))))
 
+-- a loop over characters: one more, and all
 pub characters_more : (bs : List ℕ) (i : ℕ) → i < length bs → all_characters (drop i bs) ≡ (is_character (slice_index bs i) && all_characters (drop (i + 1) bs))
 unfolding all_characters
 characters_more bs i h = rw (drop_more bs i 0 h)

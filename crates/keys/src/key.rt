@@ -1,6 +1,5 @@
 //! What a kind of keys is.
-ghost use Rattle.std.specs.Prelude.{◌≡◌, true};
-ghost use Rattle.std.specs.Ordering.{MatchOrdering};
+ghost use Rattle.std.specs.Prelude.{◌≡◌};
 ghost use Rattle.keys.specs.Kind.{Kind, Lawful, order, write_answer, written};
 
 /// A buffer is not as long as a key.

@@ -3,7 +3,7 @@ ghost use Rattle.std.specs.Prelude.{◌≡◌, true, [], ◌∷◌};
 ghost use Rattle.keys.specs.Padding.{padded};
 
 /// One to eight characters, and zeros after them.
-// Eight fields and no array, by the project's rule for this type: the invariant speaks of each byte by its name.
+// A name keeps its eight byte fields: it stands so in the file, and the derived order takes them in turn.
 #[derive(Clone, Copy, PartialEq, Eq, PartialOrd, Ord, Debug)]
 pub struct Name {
     first: u8,

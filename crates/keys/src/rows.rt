@@ -5,6 +5,7 @@ ghost use Rattle.keys.specs.Rows.{front_key, rows_fit, rows_rise};
 use crate::key::Key;
 
 /// Whether the keys of `count` entries, `stride` bytes apart, can all be read, and each is less than the next.
+// Three values of one call: a struct of them would be made for this call and taken apart in it.
 pub fn rising<K: Key>(rows: &[u8], stride: usize, count: usize) -> bool
     ensures { result ≡ rows_rise K.Key.kind stride count rows.now }
 {

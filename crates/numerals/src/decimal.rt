@@ -24,6 +24,7 @@ pub fn number_below(digits: &[u8], limit: u64) -> Option<u64>
         if !digit.is_ascii_digit() {
             return None;
         }
+        // A subtraction: `to_digit` would go by way of a `char` and a `u32`, and be no plainer.
         number = appended(number, *digit - b'0')?;
     }
     if number < limit { Some(number) } else { None }

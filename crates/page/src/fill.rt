@@ -63,6 +63,8 @@ pub fn fill_empty_leaf<K: Key>(page: &mut [u8])
 }
 
 /// What a node's block is to show, its entries in bytes.
+// A boolean and two numbers, as they stand in the block: 0 in the link is how the file writes that there is none, and
+// the count is not the entries' length, which is counted by a width that is known at run time alone.
 #[derive(Clone, Copy)]
 pub struct Image<'a> {
     pub leaf: bool,

@@ -11,6 +11,8 @@ use keys::key::Key;
 use store::bytes::overlay;
 
 /// Copies the entries that are from `lo` to `hi`, until one does not fit.
+// Apart from `gather`: here the walk over the bytes is proved, there what it means for a leaf that keeps the rules.
+// A buffer and how many entries stand in it: the caller's memory is filled leaf by leaf, and there is no heap.
 fn gather_rows<K: Key>(
     node: &NodeView<K>,
     lo: &K,
@@ -24,7 +26,7 @@ fn gather_rows<K: Key>(
 {
     let size = K::key_width() + NUMBER;
     let mut number = taken;
-    for entry in node.entries() {
+    for entry in node.entries().each() {
         let Some(k) = entry_key::<K>(entry) else {
             return (number, None);
         };

@@ -16,6 +16,7 @@ use tree::rule::Rule;
 pub const ENTRIES: usize = 8;
 
 /// The least entries of a node.
+// Booleans, as the rules have them: a node is a leaf or not, and the first of its way or not.
 pub fn least_entries(order: u8, top: bool, leaf: bool) -> u8
     ensures { result ≡ least order top leaf }
 {
@@ -47,7 +48,8 @@ fn has_count(page: &[u8], low: u8, order: u8) -> bool
 fn has_keys<K: Key>(node: &NodeView<K>) -> bool
     ensures { result ≡ rows_rise K.Key.kind (K.Key.kind.width + 4) (u8_at 1 node.now.page.now) (drop 8 node.now.page.now) }
 {
-    rising::<K>(node.rows(), K::key_width() + NUMBER, node.count())
+    let entries = node.entries();
+    rising::<K>(entries.rows, K::key_width() + NUMBER, entries.count)
 }
 
 /// Rule 5: a leaf's link, or an inner node's children, are blocks of the store.
@@ -58,7 +60,7 @@ fn has_links<K: Key>(node: &NodeView<K>, leaf: bool, count: u32) -> bool
     if leaf {
         return link < count;
     }
-    0 < link && link < count && node.all_blocks(count)
+    0 < link && link < count && node.entries().all_blocks(count)
 }
 
 /// The first of rules 2 to 5 that a block breaks.

@@ -19,7 +19,7 @@ pub fn save(rt: &HostRuntime, card: &mut Card, file: &[u8]) -> Result<(), Failur
 }
 
 /// Marks a block of the plain store.
-// Two commands that differ in one method: a closure in its place is no plainer.
+// This and `clear` differ in one call: one function for both would take that call as a closure, for three lines saved.
 pub fn mark(rt: &HostRuntime, card: &mut Card, block: &[u8]) -> Result<(), Failure> {
     let block = number(block)?;
     let store = card.plain().ok_or(Complaint::NoMarks)?;

@@ -28,7 +28,7 @@ pub struct Fault {
 
 impl Cause {
     /// The number by which files and tools name the cause.
-    // By a name of its own, and no `From`: the numbers are asked for by name.
+    // A method and no `From`: it is the interface that tools and docs go by.
     pub fn number(self) -> u8
         ensures { result ≡ numbered self }
     {

@@ -2,7 +2,7 @@
 
 ghost use Rattle.std.specs.Prelude.{◌≡◌};
 ghost use Rattle.store.specs.Meaning.{Meaning, Limits};
-ghost use Rattle.store.specs.Calls.{misuse, answered, Read, Wrote};
+ghost use Rattle.store.specs.Calls.{answered, misfit, misuse, Read, Wrote};
 
 use crate::fault::{Cause, Fault};
 
@@ -40,14 +40,21 @@ pub trait Store {
     fn check_fit(&self, block: u32, length: usize) -> Result<(), Fault>
         ensures { result ≡ answered (misuse (meaning self.now) block length) }
     {
-        if block >= self.count() {
-            return Err(Fault::new(Cause::NoSuchBlock, block));
-        }
-        if length != self.size() as usize {
-            return Err(Fault::new(Cause::WrongBuffer, block));
-        }
-        Ok(())
+        check_fit(self.count(), self.size(), block, length)
     }
 
     ghost limits: { (s : Self) → Limits (meaning s) };
+}
+
+/// Refuses a block that is not there among so many, and then a buffer that is not as long as a block of that size.
+pub fn check_fit(count: u32, size: u32, block: u32, length: usize) -> Result<(), Fault>
+    ensures { result ≡ answered (misfit count size block length) }
+{
+    if block >= count {
+        return Err(Fault::new(Cause::NoSuchBlock, block));
+    }
+    if length != size as usize {
+        return Err(Fault::new(Cause::WrongBuffer, block));
+    }
+    Ok(())
 }

@@ -37,7 +37,7 @@ pub enum Refusal {
 
 impl Refusal {
     /// The number by which tools name the refusal.
-    // By a name of its own, and no `From`: the numbers are asked for by name.
+    // A method and no `From`: it is the interface that tools and docs go by.
     pub fn number(self) -> u8
         ensures { result ≡ numbered self }
     {

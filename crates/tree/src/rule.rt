@@ -32,7 +32,7 @@ pub enum Rule {
 
 impl Rule {
     /// The number by which tools name the rule.
-    // By a name of its own, and no `From`: the numbers are asked for by name.
+    // A method and no `From`: it is the interface that tools and docs go by.
     pub fn number(self) -> u8
         ensures { result ≡ rule_number self }
     {

@@ -1,6 +1,6 @@
 //! Nodes that take one entry more, split where that is too many.
 
-ghost use Rattle.std.specs.Prelude.{◌≡◌, ℕ, ◌+◌, ◌*◌, ◌≤◌, cond, List, [], ◌∷◌, ◌++◌, length, drop, nat_le};
+ghost use Rattle.std.specs.Prelude.{◌≡◌, ℕ, ◌+◌, ◌≤◌, cond, List, [], ◌∷◌, ◌++◌, length, drop, nat_le};
 ghost use Rattle.keys.specs.Bytes.{big_endian};
 ghost use Rattle.tree.specs.Entries.{write_entries};
 ghost use Rattle.tree.specs.Fields.{padded};
@@ -25,6 +25,7 @@ pub fn push_node(batch: &mut Batch, size: usize, block: u32, image: &Image)
     ensures pushed { stacked batch.new size ≡ (block, padded size (tag_of image.now.leaf ∷ image.now.count ∷ 0 ∷ 0 ∷ (big_endian 4 image.now.link ++ image.now.entries.now))) ∷ stacked batch.old size }
     ensures len { length batch.new ≡ length batch.old + 1 }
 {
+    // On the stack: the cabinet has no heap.
     let mut page = [0; LONGEST];
     fill_node(&mut page[..size], image);
     batch.push(block, &page);

@@ -9,7 +9,7 @@ use std::marker::PhantomData;
 use store::bytes::overlay;
 
 /// Entries of a node, one after another in bytes.
-// The width is known at run time alone, so the count stands beside the bytes, and `whole` ties them.
+// The count is held: an entry's width is known at run time alone, so no slice of entries can have their number as its length.
 #[derive(Drop)]
 pub struct Row<'a, K: Key> {
     pub bytes: &'a [u8],

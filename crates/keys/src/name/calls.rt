@@ -22,6 +22,7 @@ fn may_follow(before: u8, byte: u8) -> bool
     byte == 0 || (is_character(before) && is_character(byte))
 }
 
+// Pair by pair, as the rule reads: a loop over neighbours would need an invariant beside it, and be no plainer.
 fn is_padded(all: [u8; 8]) -> bool
     ensures { result ≡ padded (first_eight all) }
 {
@@ -35,6 +36,7 @@ fn is_padded(all: [u8; 8]) -> bool
         && may_follow(all[6], all[7])
 }
 
+// A loop and no `all`: of a chain with this test the check finds no proof.
 fn are_characters(bytes: &[u8]) -> bool
     ensures { result ≡ all_characters bytes.now }
 {

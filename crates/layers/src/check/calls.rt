@@ -61,6 +61,7 @@ impl<S: Store> Store for Check<S> {
     {
         self.tally = self.tally.wrapping_add(1);
         self.check_fit(block, buffer.len())?;
+        // On the stack: the cabinet has no heap.
         let mut page = [0u8; LONGEST];
         self.get_sealed(block, &mut page[..buffer.len() + NUMBER as usize], buffer)
     }
@@ -70,6 +71,7 @@ impl<S: Store> Store for Check<S> {
         ensures below { S.Store.meaning self.new.below ≡ unless (misuse (checked S.Store.meaning self.old) block (length buffer.now)) (written (S.Store.meaning self.old.below) block (sealed buffer.now block)) (S.Store.meaning self.old.below) }
     {
         self.check_fit(block, buffer.len())?;
+        // On the stack: the cabinet has no heap.
         let mut page = [0u8; LONGEST];
         self.put_sealed(block, &mut page[..buffer.len() + NUMBER as usize], buffer)
     }

@@ -1,6 +1,6 @@
 //! Check numbers, and blocks read and written with them.
 
-ghost use Rattle.std.specs.Prelude.{◌≡◌, ◌+◌, ◌<◌, ◌≤◌, length, take, Ok, Err};
+ghost use Rattle.std.specs.Prelude.{◌≡◌, ◌+◌, ◌<◌, ◌≤◌, length, take, Ok};
 ghost use Rattle.store.specs.Calls.{answered, unless};
 ghost use Rattle.layers.specs.Checks.{check_mark, check_number, checked, holds, sealed};
 ghost use Rattle.store.specs.Meaning.{tallied, written};

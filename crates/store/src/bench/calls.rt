@@ -26,6 +26,7 @@ impl BenchStore {
     }
 
     /// Copies a block out.
+    // Apart from the plain store's: there the bounds are fields, here constants; what both do is `block_in`.
     fn get_block(&self, block: u32, buffer: &mut [u8])
         requires { (block < 64) × (length buffer.old ≡ 128) }
         ensures { buffer.new ≡ (bench self.now).contents block }
@@ -34,6 +35,7 @@ impl BenchStore {
     }
 
     /// Puts all bytes of a block.
+    // Apart from the plain store's, which sets a mark byte too; what both do is `overlay`.
     fn put_block(&mut self, block: u32, bytes: &[u8])
         requires { (block < 64) × (length bytes.now ≡ 128) }
         ensures { bench self.new ≡ written (bench self.old) block bytes.now }

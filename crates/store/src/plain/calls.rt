@@ -16,6 +16,7 @@ use crate::store::{LONGEST, MOST_BLOCKS, Store};
 const SHORTEST: u32 = 16;
 
 /// The length itself, and 0 where no block of a plain store has that length.
+// 0 and no `Option`: a store made with such a length has the size 0.
 fn allowed(size: u32) -> u32
     ensures { result ≡ cond (nat_le 16 size && nat_le size 512) size 0 }
 {
@@ -53,6 +54,7 @@ impl PlainStore {
     }
 
     /// Sets a block's mark byte.
+    // A byte and no flag: callers hand the marks in as bytes, 0 for none.
     fn remark(&mut self, block: u32, byte: u8) -> Result<(), Fault>
         ensures answer { result ≡ answered (absent (plain self.old) block) }
         ensures after { plain self.new ≡ unless (absent (plain self.old) block) (remarked (plain self.old) block (marked_by byte block)) (plain self.old) }

@@ -9,6 +9,7 @@ use crate::plain::PlainStore;
 
 impl PlainStore {
     /// Copies a block out.
+    // Apart from the bench store's: there the bounds are constants, here fields; what both do is `block_in`.
     pub(crate) fn get_block(&self, block: u32, buffer: &mut [u8])
         requires { (block < self.now.count) × (length buffer.old ≡ self.now.size) }
         ensures { buffer.new ≡ (plain self.now).contents block }
@@ -37,6 +38,7 @@ impl PlainStore {
     }
 
     /// Puts all bytes of a block, and its mark byte.
+    // Apart from the bench store's, which has no marks; what both do is `overlay`.
     pub(crate) fn put_block(&mut self, block: u32, bytes: &[u8], mark: u8)
         requires { (block < self.old.count) × (length bytes.now ≡ self.old.size) }
         ensures { plain self.new ≡ remarked (refilled (plain self.old) block bytes.now) block (marked_by mark block) }

@@ -16,7 +16,7 @@ returns-in_err-head g c =
 pub reach_leaf-requires : goal.reach_leaf-requires
 reach_leaf-requires g c =
     let e = c.in_ok-head.ensures in
-    (head_room g.K.Key.kind (g.S.Store.meaning c.args.reader.now.store.now) (g.S.Store.meaning c.head.new.self.store.now) e.after c.in_ok-head.head c.args.reader.now.wide e.answer).1
+    (head_room g.K.Key.kind (g.S.Store.meaning c.args.reader.now.store.now) (g.S.Store.meaning c.head.new.self.store.now) e.after c.in_ok-head.head c.requires.wide e.answer).1
 
 pub returns-in_err-reach_leaf : goal.returns-in_err-reach_leaf
 returns-in_err-reach_leaf g c =

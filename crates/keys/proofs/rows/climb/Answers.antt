@@ -6,17 +6,11 @@ use Rattle.keys.proofs.rows.climb.Goals as goal
 pub returns-then-count-eq0 : goal.returns-then-count-eq0
 returns-then-count-eq0 g c = search (rules, rise_none)
 
-
-
 pub returns-in_default : goal.returns-in_default
 returns-in_default g c = search (rules, rise_first)
 
 pub loop-i-init : goal.loop-i-init
 loop-i-init g c = search (rules, rise_first)
-
-
-
-
 
 pub returns-in_default-key_at : goal.returns-in_default-key_at
 returns-in_default-key_at g c = search (rules, rise_more)

@@ -7,9 +7,6 @@ use Rattle.store.specs.Meaning.{Meaning}
 use Rattle.tree.specs.declared.refusal.Refusal.{Refusal}
 use Rattle.tree.specs.Plans.{run}
 
-pub loop-level-init : goal.loop-level-init
-loop-level-init g c = (refl, refl, refl, refl, refl, refl)
-
 pub returns-in_err-node : goal.returns-in_err-node
 returns-in_err-node g c =
     let v = c.loop-level.invariant in

@@ -1,14 +1,8 @@
-use Rattle.std.proofs.Common.{◌*◌, sym, subst, refl, arith}
+use Rattle.std.proofs.Common.{refl, arith}
 use Rattle.std.proofs.lemmas.Bool.Decides.{nat_tests}
-use Rattle.store.specs.Bytes.{Bytes}
-use Rattle.store.specs.Blocks.{blocks_written, overlaid_bytes}
+use Rattle.store.specs.Blocks.{blocks_written}
 use Rattle.store.proofs.Meanings.{same_meaning}
 use Rattle.store.proofs.bench.BenchStore.put_block.Goals as goal
-
-pub invariant_of-self-clause-filled : goal.invariant_of-self-clause-filled
-invariant_of-self-clause-filled c =
-    let s = c.args.self.now in
-    subst Bytes (sym c.overlay.ensures) (overlaid_bytes s.blocks.bytes (c.args.block * 128) c.args.bytes.now (omega (arith, s.whole)) s.filled (λ k. (c.type_inv.bytes k).fits))
 
 pub returns : goal.returns
 returns c =

@@ -1,6 +1,6 @@
 use Rattle.std.proofs.Common.{rules}
 use Rattle.page.proofs.Cuts.{cut, cut_none, kids_end, kids_next}
-use Rattle.page.proofs.rows.NodeView.all_blocks.Goals as goal
+use Rattle.page.proofs.rows.Entries.all_blocks.Goals as goal
 
 pub returns-then-block-lt1 : goal.returns-then-block-lt1
 returns-then-block-lt1 g c =

@@ -2,7 +2,7 @@ use Rattle.std.proofs.Common.{rules}
 use Rattle.std.specs.Iterator.Adapters.{enumerate_source}
 use Rattle.keys.proofs.Comparing.{lt_less}
 use Rattle.page.proofs.Cuts.{cut, cut_none, place_end, place_next}
-use Rattle.page.proofs.rows.NodeView.place.Goals as goal
+use Rattle.page.proofs.rows.Entries.place.Goals as goal
 
 pub returns-in_default : goal.returns-in_default
 returns-in_default g c =

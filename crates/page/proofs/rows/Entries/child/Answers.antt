@@ -1,7 +1,7 @@
 use Rattle.std.proofs.Common.{rules}
 use Rattle.keys.proofs.Comparing.{lt_less}
 use Rattle.page.proofs.Cuts.{cut, cut_none, kid_end, kid_next}
-use Rattle.page.proofs.rows.NodeView.child.Goals as goal
+use Rattle.page.proofs.rows.Entries.child.Goals as goal
 
 pub returns-in_default : goal.returns-in_default
 returns-in_default g c =

@@ -1,7 +1,7 @@
 use Rattle.std.proofs.Common.{rules}
 use Rattle.keys.proofs.Comparing.{ge_less, lt_less}
 use Rattle.page.proofs.Cuts.{cut, cut_none, record_end, record_next}
-use Rattle.page.proofs.rows.NodeView.record.Goals as goal
+use Rattle.page.proofs.rows.Entries.record.Goals as goal
 
 pub returns-in_err-k : goal.returns-in_err-k
 returns-in_err-k g c =
