@@ -29,6 +29,7 @@ pub fn least_entries(order: u8, top: bool, leaf: bool) -> u8
 }
 
 /// Rule 2: the tag says what the node is.
+// This and the next look at a page before there is a view of it, which asks room for as many entries as the count says.
 fn has_tag(page: &[u8], leaf: bool) -> bool
     requires { 8 ≤ length page.now }
     ensures { result ≡ (u8_at 0 page.now == tag_of leaf) }

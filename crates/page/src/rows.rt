@@ -11,6 +11,7 @@ ghost use Rattle.tree.specs.Fields.{u8_at, u32_at};
 use crate::fields::number_at;
 use crate::node::ENTRIES;
 use keys::key::Key;
+use std::cmp::Ordering;
 use std::iter::Take;
 use std::marker::PhantomData;
 use std::slice::ChunksExact;
@@ -97,18 +98,15 @@ impl<'a, K: Key> Entries<'a, K> {
     }
 
     /// The record of a key.
-    // Two comparisons and no `cmp`: the law of a key's order is said of `<`.
     pub fn record(&self, key: &K) -> Option<u32>
         ensures { result ≡ record_at K.Key.kind key.now self.now.count self.now.rows.now }
     {
         for entry in self.each() {
             let k = entry_key::<K>(entry)?;
-            if k >= *key {
-                return if *key < k {
-                    None
-                } else {
-                    Some(entry_number::<K>(entry))
-                };
+            match k.cmp(key) {
+                Ordering::Less => {}
+                Ordering::Equal => return Some(entry_number::<K>(entry)),
+                Ordering::Greater => return None,
             }
         }
         None

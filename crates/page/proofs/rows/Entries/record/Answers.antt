@@ -1,5 +1,4 @@
 use Rattle.std.proofs.Common.{rules}
-use Rattle.keys.proofs.Comparing.{ge_less, lt_less}
 use Rattle.page.proofs.Cuts.{cut, cut_none, record_end, record_next}
 use Rattle.page.proofs.rows.Entries.record.Goals as goal
 
@@ -9,27 +8,25 @@ returns-in_err-k g c =
     let e = record_next g.K.Key.kind c.loop-entry.entry-iterator c.next.new.self c.in-Some.entry.now x c.args.key.now in
     search rules
 
-pub returns-then-lt : goal.returns-then-lt
-returns-then-lt g c =
+pub returns-in-Equal : goal.returns-in-Equal
+returns-in-Equal g c =
     let x = cut g.K.Key.kind c.loop-entry.entry-iterator c.next.new.self c.in-Some.entry c.loop-entry.invariant.ready c.in-Some.ensures.steps in
     let e = record_next g.K.Key.kind c.loop-entry.entry-iterator c.next.new.self c.in-Some.entry.now x c.args.key.now in
-    let f = ge_less g.K.Key.kind g.met.K.Ord.matches_partial_cmp g.met.K.Key.ordered c.in_ok-k.k c.args.key.now in
-    let h = lt_less g.K.Key.kind g.met.K.Ord.matches_partial_cmp g.met.K.Key.ordered c.args.key.now c.in_ok-k.k in
+    let o = g.met.K.Key.ordered c.in_ok-k.k c.args.key.now in
     search rules
 
-pub returns-else-lt : goal.returns-else-lt
-returns-else-lt g c =
+pub returns-in-Greater : goal.returns-in-Greater
+returns-in-Greater g c =
     let x = cut g.K.Key.kind c.loop-entry.entry-iterator c.next.new.self c.in-Some.entry c.loop-entry.invariant.ready c.in-Some.ensures.steps in
     let e = record_next g.K.Key.kind c.loop-entry.entry-iterator c.next.new.self c.in-Some.entry.now x c.args.key.now in
-    let f = ge_less g.K.Key.kind g.met.K.Ord.matches_partial_cmp g.met.K.Key.ordered c.in_ok-k.k c.args.key.now in
-    let h = lt_less g.K.Key.kind g.met.K.Ord.matches_partial_cmp g.met.K.Key.ordered c.args.key.now c.in_ok-k.k in
+    let o = g.met.K.Key.ordered c.in_ok-k.k c.args.key.now in
     search rules
 
 pub loop-entry-preserved : goal.loop-entry-preserved
 loop-entry-preserved g c =
     let x = cut g.K.Key.kind c.loop-entry.entry-iterator c.next.new.self c.in-Some.entry c.loop-entry.invariant.ready c.in-Some.ensures.steps in
     let e = record_next g.K.Key.kind c.loop-entry.entry-iterator c.next.new.self c.in-Some.entry.now x c.args.key.now in
-    let f = ge_less g.K.Key.kind g.met.K.Ord.matches_partial_cmp g.met.K.Key.ordered c.in_ok-k.k c.args.key.now in
+    let o = g.met.K.Key.ordered c.in_ok-k.k c.args.key.now in
     search rules
 
 pub returns : goal.returns
