@@ -39,6 +39,7 @@ fn find_record<S: Store, K: Key>(store: &mut S, key: &K) -> Result<Option<u32>, 
     if !is_fit(store.count(), size) {
         return Err(Refusal::Unfit);
     }
+    // On the stack: the cabinet has no heap.
     let mut page = [0u8; LONGEST];
     find_below(
         &mut BlockReader::new(store, &mut page[..size as usize], 0),

@@ -69,6 +69,7 @@ fn format_blocks<S: Store, K: Key>(store: &mut S, order: u8) -> Result<(), Refus
     if !order_fits::<K>(order, size as usize) {
         return Err(Refusal::Unfit);
     }
+    // On the stack: the cabinet has no heap.
     let mut page = [0u8; LONGEST];
     lay::<S, K>(store, order, &mut page[0..size as usize]);
     Ok(())

@@ -23,6 +23,7 @@ use store::store::{LONGEST, Store};
 use tree::refusal::{RangeRefusal, Refusal, Refused};
 use tree::rule::Rule;
 
+// `lo` and `hi` side by side, as the public call takes them: a struct of both would be made here and taken apart in `page`.
 /// Goes from leaf to leaf, the first of which stands in the page, and says how many entries then stand in the buffer.
 fn follow_leaves<S: Store, K: Key>(
     reader: &mut BlockReader<S, K>,
@@ -100,6 +101,7 @@ fn range_entries<S: Store, K: Key>(
     if hi < lo {
         return Err(Refusal::Crossed.into());
     }
+    // On the stack: the cabinet has no heap.
     let mut page = [0u8; LONGEST];
     let mut reader = BlockReader::new(store, &mut page[..size as usize], 0);
     range_below(&mut reader, lo, hi, buffer)

@@ -26,6 +26,7 @@ pub struct BlockReader<'a, S: Store, K: Key> {
     ghost room: { 8 + order * (K.Key.kind.width + 4) ≤ (S.Store.meaning store.now).size },
 }
 
+// Each function says that both borrows keep their ghost names: by that a caller knows what it has back.
 impl<'a, S: Store, K: Key> BlockReader<'a, S, K> {
     /// No block read yet. Where the head is still to be read, `order` is 0.
     pub fn new(store: &'a mut S, page: &'a mut [u8], order: u8) -> BlockReader<'a, S, K>
@@ -53,6 +54,7 @@ impl<'a, S: Store, K: Key> BlockReader<'a, S, K> {
     }
 
     /// Reads the head into the page and examines it.
+    // Asked here and not held by the reader, which would ask it of those too who read nodes alone.
     pub fn head(&mut self) -> Result<Head, Refusal>
         requires wide { 64 ≤ (S.Store.meaning self.old.store.now).size }
         ensures answer { result ≡ head_answer (refusal (S.Store.meaning self.old.store.now) 0 (S.Store.meaning self.old.store.now).size) (see_head K.Key.kind (S.Store.meaning self.old.store.now).count (S.Store.meaning self.old.store.now).size ((S.Store.meaning self.old.store.now).contents 0)) }
