@@ -12,12 +12,11 @@ ghost use Rattle.tree.specs.Plans.{run};
 ghost use Rattle.tree.specs.Walks.{with_head};
 ghost use Rattle.tree.specs.Ranges.{chase, follow, range_below, range_plan, range_told, standing};
 
-use crate::reading::BlockReader;
+use crate::reading::{BlockReader, fit_size};
 use crate::telling::tell;
 use keys::key::Key;
 use page::fields::number_at;
 use page::gather::gather;
-use page::head::is_fit;
 use page::rows::NodeView;
 use store::store::{LONGEST, Store};
 use tree::refusal::{RangeRefusal, Refusal, Refused};
@@ -94,10 +93,7 @@ fn range_entries<S: Store, K: Key>(
 ) -> Result<(usize, bool), RangeRefusal>
     ensures { RangeEnd K.Key.kind buffer.old result buffer.new (S.Store.meaning store.new) (run (S.Store.meaning store.old) (range_plan K.Key.kind (S.Store.meaning store.old).count (S.Store.meaning store.old).size lo.now hi.now (length buffer.old / (K.Key.kind.width + 4)))) }
 {
-    let size = store.size();
-    if !is_fit(store.count(), size) {
-        return Err(Refusal::Unfit.into());
-    }
+    let size = fit_size(store)?;
     if hi < lo {
         return Err(Refusal::Crossed.into());
     }

@@ -1,18 +1,32 @@
 //! Reading blocks into a page and examining them.
 
-ghost use Rattle.std.specs.Prelude.{◌≡◌, ◌+◌, ◌*◌, ◌≤◌, length};
+ghost use Rattle.std.specs.Prelude.{◌≡◌, true, false, ◌+◌, ◌*◌, ◌≤◌, length};
 ghost use Rattle.index.specs.Readings.{Reading, head_answer, order_after};
 ghost use Rattle.store.specs.Calls.{refusal};
 ghost use Rattle.store.specs.Meaning.{tallied};
+ghost use Rattle.std.specs.Result.{MatchResult};
 ghost use Rattle.tree.specs.Heads.{see_head};
+ghost use Rattle.tree.specs.Walks.{is_fit};
+ghost use Rattle.tree.specs.declared.refusal.Refusal.TheVariants.{Unfit};
 
 use keys::key::Key;
-use page::head::examine_head;
+use page::head::{examine_head, is_fit};
 use page::node::{flaw, least_entries};
 use std::marker::PhantomData;
 use store::store::Store;
 use tree::head::Head;
 use tree::refusal::Refusal;
+
+/// The length of a store's blocks, where it has room for an index.
+pub(crate) fn fit_size<S: Store>(store: &S) -> Result<u32, Refusal>
+    ensures { MatchResult result (λ s. (s ≡ (S.Store.meaning store.now).size) × (is_fit (S.Store.meaning store.now).count (S.Store.meaning store.now).size ≡ true)) (λ e. (e ≡ Unfit) × (is_fit (S.Store.meaning store.now).count (S.Store.meaning store.now).size ≡ false)) }
+{
+    let size = store.size();
+    if !is_fit(store.count(), size) {
+        return Err(Refusal::Unfit);
+    }
+    Ok(size)
+}
 
 /// A store, a page as long as its blocks, and the most entries of a node: what the head says, or 0, of no head yet.
 // A number and not an Option: the rooms of a block are counted by it, and 0 asks for none.
