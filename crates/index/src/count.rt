@@ -9,10 +9,9 @@ ghost use Rattle.tree.specs.Plans.{bare, run, told};
 ghost use Rattle.tree.specs.Plans.Plan.{done};
 ghost use Rattle.tree.specs.Walks.{with_head};
 
-use crate::reading::BlockReader;
+use crate::reading::{BlockReader, fit_size};
 use crate::telling::tell;
 use keys::key::Key;
-use page::head::is_fit;
 use store::store::{LONGEST, Store};
 use tree::refusal::{Refusal, Refused};
 
@@ -31,10 +30,7 @@ fn counted<S: Store, K: Key>(reader: &mut BlockReader<S, K>) -> Result<u32, Refu
 fn count_keys<S: Store, K: Key>(store: &mut S) -> Result<u32, Refusal>
     ensures { run (S.Store.meaning store.old) (count_plan K.Key.kind (S.Store.meaning store.old).count (S.Store.meaning store.old).size) ≡ (bare result, S.Store.meaning store.new) }
 {
-    let size = store.size();
-    if !is_fit(store.count(), size) {
-        return Err(Refusal::Unfit);
-    }
+    let size = fit_size(store)?;
     // On the stack: the cabinet has no heap.
     let mut page = [0u8; LONGEST];
     counted::<S, K>(&mut BlockReader::new(store, &mut page[..size as usize], 0))

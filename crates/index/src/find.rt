@@ -8,10 +8,9 @@ ghost use Rattle.tree.specs.Calls.{find_below, find_plan};
 ghost use Rattle.tree.specs.Plans.{bare, run, told};
 ghost use Rattle.tree.specs.Walks.{with_head};
 
-use crate::reading::BlockReader;
+use crate::reading::{BlockReader, fit_size};
 use crate::telling::tell;
 use keys::key::Key;
-use page::head::is_fit;
 use page::rows::NodeView;
 use store::store::{LONGEST, Store};
 use tree::refusal::{Refusal, Refused};
@@ -35,10 +34,8 @@ fn find_below<S: Store, K: Key>(
 fn find_record<S: Store, K: Key>(store: &mut S, key: &K) -> Result<Option<u32>, Refusal>
     ensures { run (S.Store.meaning store.old) (find_plan K.Key.kind (S.Store.meaning store.old).count (S.Store.meaning store.old).size key.now) ≡ (bare result, S.Store.meaning store.new) }
 {
-    let size = store.size();
-    if !is_fit(store.count(), size) {
-        return Err(Refusal::Unfit);
-    }
+    let size = fit_size(store)?;
+    // On the stack: the cabinet has no heap.
     let mut page = [0u8; LONGEST];
     find_below(
         &mut BlockReader::new(store, &mut page[..size as usize], 0),

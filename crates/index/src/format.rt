@@ -5,10 +5,11 @@ ghost use Rattle.tree.specs.SoundCalls.{Empty};
 ghost use Rattle.tree.specs.Calls.{format_after, format_plan, formatted, laid, next_free};
 ghost use Rattle.tree.specs.Plans.{bare, run, told};
 
+use crate::reading::fit_size;
 use crate::telling::tell;
 use keys::key::Key;
 use page::fill::{fill_empty_leaf, fill_free, fill_head};
-use page::head::{is_fit, order_fits};
+use page::head::order_fits;
 use store::store::{LONGEST, Store};
 use tree::head::Head;
 use tree::refusal::{Refusal, Refused};
@@ -62,13 +63,11 @@ fn format_blocks<S: Store, K: Key>(store: &mut S, order: u8) -> Result<(), Refus
     ensures after { S.Store.meaning store.new ≡ format_after K.Key.kind (S.Store.meaning store.old) order }
     ensures tally { (S.Store.meaning store.new).tally ≡ (S.Store.meaning store.old).tally }
 {
-    let size = store.size();
-    if !is_fit(store.count(), size) {
-        return Err(Refusal::Unfit);
-    }
+    let size = fit_size(store)?;
     if !order_fits::<K>(order, size as usize) {
         return Err(Refusal::Unfit);
     }
+    // On the stack: the cabinet has no heap.
     let mut page = [0u8; LONGEST];
     lay::<S, K>(store, order, &mut page[0..size as usize]);
     Ok(())

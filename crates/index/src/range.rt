@@ -12,17 +12,17 @@ ghost use Rattle.tree.specs.Plans.{run};
 ghost use Rattle.tree.specs.Walks.{with_head};
 ghost use Rattle.tree.specs.Ranges.{chase, follow, range_below, range_plan, range_told, standing};
 
-use crate::reading::BlockReader;
+use crate::reading::{BlockReader, fit_size};
 use crate::telling::tell;
 use keys::key::Key;
 use page::fields::number_at;
 use page::gather::gather;
-use page::head::is_fit;
 use page::rows::NodeView;
 use store::store::{LONGEST, Store};
 use tree::refusal::{RangeRefusal, Refusal, Refused};
 use tree::rule::Rule;
 
+// `lo` and `hi` side by side, as the public call takes them: a struct of both would be made here and taken apart in `page`.
 /// Goes from leaf to leaf, the first of which stands in the page, and says how many entries then stand in the buffer.
 fn follow_leaves<S: Store, K: Key>(
     reader: &mut BlockReader<S, K>,
@@ -93,13 +93,11 @@ fn range_entries<S: Store, K: Key>(
 ) -> Result<(usize, bool), RangeRefusal>
     ensures { RangeEnd K.Key.kind buffer.old result buffer.new (S.Store.meaning store.new) (run (S.Store.meaning store.old) (range_plan K.Key.kind (S.Store.meaning store.old).count (S.Store.meaning store.old).size lo.now hi.now (length buffer.old / (K.Key.kind.width + 4)))) }
 {
-    let size = store.size();
-    if !is_fit(store.count(), size) {
-        return Err(Refusal::Unfit.into());
-    }
+    let size = fit_size(store)?;
     if hi < lo {
         return Err(Refusal::Crossed.into());
     }
+    // On the stack: the cabinet has no heap.
     let mut page = [0u8; LONGEST];
     let mut reader = BlockReader::new(store, &mut page[..size as usize], 0);
     range_below(&mut reader, lo, hi, buffer)

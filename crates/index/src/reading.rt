@@ -1,18 +1,32 @@
 //! Reading blocks into a page and examining them.
 
-ghost use Rattle.std.specs.Prelude.{◌≡◌, ◌+◌, ◌*◌, ◌≤◌, length};
+ghost use Rattle.std.specs.Prelude.{◌≡◌, true, false, ◌+◌, ◌*◌, ◌≤◌, length};
 ghost use Rattle.index.specs.Readings.{Reading, head_answer, order_after};
 ghost use Rattle.store.specs.Calls.{refusal};
 ghost use Rattle.store.specs.Meaning.{tallied};
+ghost use Rattle.std.specs.Result.{MatchResult};
 ghost use Rattle.tree.specs.Heads.{see_head};
+ghost use Rattle.tree.specs.Walks.{is_fit};
+ghost use Rattle.tree.specs.declared.refusal.Refusal.TheVariants.{Unfit};
 
 use keys::key::Key;
-use page::head::examine_head;
+use page::head::{examine_head, is_fit};
 use page::node::{flaw, least_entries};
 use std::marker::PhantomData;
 use store::store::Store;
 use tree::head::Head;
 use tree::refusal::Refusal;
+
+/// The length of a store's blocks, where it has room for an index.
+pub(crate) fn fit_size<S: Store>(store: &S) -> Result<u32, Refusal>
+    ensures { MatchResult result (λ s. (s ≡ (S.Store.meaning store.now).size) × (is_fit (S.Store.meaning store.now).count (S.Store.meaning store.now).size ≡ true)) (λ e. (e ≡ Unfit) × (is_fit (S.Store.meaning store.now).count (S.Store.meaning store.now).size ≡ false)) }
+{
+    let size = store.size();
+    if !is_fit(store.count(), size) {
+        return Err(Refusal::Unfit);
+    }
+    Ok(size)
+}
 
 /// A store, a page as long as its blocks, and the most entries of a node: what the head says, or 0, of no head yet.
 // A number and not an Option: the rooms of a block are counted by it, and 0 asks for none.
@@ -26,6 +40,7 @@ pub struct BlockReader<'a, S: Store, K: Key> {
     ghost room: { 8 + order * (K.Key.kind.width + 4) ≤ (S.Store.meaning store.now).size },
 }
 
+// Each function says that both borrows keep their ghost names: by that a caller knows what it has back.
 impl<'a, S: Store, K: Key> BlockReader<'a, S, K> {
     /// No block read yet. Where the head is still to be read, `order` is 0.
     pub fn new(store: &'a mut S, page: &'a mut [u8], order: u8) -> BlockReader<'a, S, K>
@@ -53,6 +68,7 @@ impl<'a, S: Store, K: Key> BlockReader<'a, S, K> {
     }
 
     /// Reads the head into the page and examines it.
+    // Asked here and not held by the reader, which would ask it of those too who read nodes alone.
     pub fn head(&mut self) -> Result<Head, Refusal>
         requires wide { 64 ≤ (S.Store.meaning self.old.store.now).size }
         ensures answer { result ≡ head_answer (refusal (S.Store.meaning self.old.store.now) 0 (S.Store.meaning self.old.store.now).size) (see_head K.Key.kind (S.Store.meaning self.old.store.now).count (S.Store.meaning self.old.store.now).size ((S.Store.meaning self.old.store.now).contents 0)) }

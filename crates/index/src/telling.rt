@@ -7,6 +7,7 @@ use store::store::Store;
 use tree::refusal::Refused;
 
 /// An answer or a refusal of a call that began when the tally was `before`, with the reads that it made.
+// A match: two closures, for the value and for the refusal, would say the reads twice as well.
 // Every call stands between a tally and this: taken as a closure, a call would need its whole contract said again here.
 pub fn tell<S: Store, A, R>(
     store: &S,

@@ -12,6 +12,7 @@ use store::bytes::overlay;
 
 /// Copies the entries that are from `lo` to `hi`, until one does not fit.
 // Apart from `gather`: here the walk over the bytes is proved, there what it means for a leaf that keeps the rules.
+// Two keys side by side, as `range` takes them: a struct of both would be made for one call and taken apart at each comparison.
 // A buffer and how many entries stand in it: the caller's memory is filled leaf by leaf, and there is no heap.
 fn gather_rows<K: Key>(
     node: &NodeView<K>,

@@ -16,7 +16,8 @@ use tree::rule::Rule;
 pub(crate) const VERSION: u32 = 1;
 
 /// The head's numbers, whatever they are.
-// Four functions look at one page in turn: a view of it would be no plainer than their bound.
+// Four functions look at one page in turn, for what the definitions say of the whole page: of a chunk of it each clause would
+// have to be carried back to the page.
 fn head_of(page: &[u8]) -> Head
     requires { 18 ≤ length page.now }
     ensures { result ≡ head_of page.now }

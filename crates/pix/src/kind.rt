@@ -49,6 +49,7 @@ impl fmt::Display for KeyKind {
 impl KeyKind {
     /// Prints the kind with its code and width.
     pub fn print(self, rt: &HostRuntime) -> io::Result<()> {
+        // The kind becomes a type here, and where a command is carried out.
         match self {
             KeyKind::Lot => self.print_as::<Lot>(rt),
             KeyKind::Moment => self.print_as::<Moment>(rt),

@@ -42,6 +42,7 @@ impl Tool {
             [b"dump", block] => dump(rt, self.card()?, block),
             [b"write", block, part] => write(rt, self.card()?, block, part),
             [b"tally"] => tally(rt, self.card()?),
+            // The kind becomes a type here, and where it is printed.
             _ => match self.kind {
                 KeyKind::Lot => self.run_on_index::<Lot>(rt, words),
                 KeyKind::Moment => self.run_on_index::<Moment>(rt, words),

@@ -13,6 +13,7 @@ use store::store::{LONGEST, Store};
 #[derive(Default, Drop)]
 pub struct Write {
     pub block: u32,
+    // As long as any block, for there is no heap; the store says how much of it is written.
     pub page: [u8; LONGEST],
 }
 

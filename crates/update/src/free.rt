@@ -33,7 +33,7 @@ fn examine_free(page: &[u8], block: u32, count: u32) -> Result<u32, Refusal>
 }
 
 /// Reads a free block into the page, examines it, and answers the block after it.
-// The store and the page side by side, as `lay` of `index` takes them: the reader, made of both, is for calls that read the head first.
+// The store and the page side by side, as `lay` of `index` takes them: the reader, made of both, reads heads and nodes, and a free block is neither.
 fn read_free<S: Store>(store: &mut S, block: u32, page: &mut [u8]) -> Result<u32, Refusal>
     requires { (length page.old ≡ (S.Store.meaning store.old).size) × (64 ≤ (S.Store.meaning store.old).size) }
     ensures answer { result ≡ free_answer (refusal (S.Store.meaning store.old) block (S.Store.meaning store.old).size) block (see_free (S.Store.meaning store.old).count ((S.Store.meaning store.old).contents block)) }

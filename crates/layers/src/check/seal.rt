@@ -41,6 +41,7 @@ pub(crate) fn seal(whole: &mut [u8], bytes: &[u8], block: u32)
     back.copy_from_slice(&number_of(bytes, block).to_be_bytes());
 }
 
+// Two buffers of one call, made and dropped in it: a struct of both would be taken apart at once.
 impl<S: Store> Check<S> {
     /// Reads a block below into `whole`, and from there without its check number into `bytes`.
     pub(crate) fn get_sealed(

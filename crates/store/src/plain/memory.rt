@@ -7,6 +7,7 @@ ghost use Rattle.store.specs.PlainMeaning.{plain, marked_by, remarked, patched, 
 use crate::bytes::{block_in, overlay};
 use crate::plain::PlainStore;
 
+// That the block is there is asked of each call: a number that has been tested would have to hold the store it was tested for.
 impl PlainStore {
     /// Copies a block out.
     // Apart from the bench store's: there the bounds are constants, here fields; what both do is `block_in`.

@@ -1,7 +1,6 @@
 use Rattle.std.proofs.Common.{◌≡◌, ℕ, ◌/◌, ◌%◌, [], ◌∷◌, ◌++◌, get_or, take, string_bytes, sym, ap, ◌∙◌, arith}
 use lib.Utf8.{encode}
 use Rattle.std.proofs.lemmas.Slice.{pushed}
-use Rattle.std.proofs.lemmas.List.{take_all}
 use Rattle.numerals.specs.Hexadecimals.{hex_digit, hex_text}
 use Rattle.numerals.proofs.HexSteps.{ascii_two, text_more, no_text}
 use Rattle.numerals.proofs.hex.text_of.Goals as goal
@@ -22,6 +21,3 @@ loop-byte-preserved c =
     b ∙ (ascii_two (hex_text (take i xs)) h l (encode h) (encode l) (c.push.ensures.ascii c.digit_of.ensures.ascii) (c.push-in-loop-byte.ensures.ascii c.digit_of-in-loop-byte.ensures.ascii)
     ∙ (ap (λ (w : ℕ). hex_text (take i xs) ++ (w ∷ l ∷ [])) d ∙ ap (λ (w : ℕ). hex_text (take i xs) ++ (hex_digit (get_or xs i 0 / 16) ∷ w ∷ [])) e)
     ∙ sym (text_more xs i (omega arith)))
-
-pub returns : goal.returns
-returns c = c.loop-byte.invariant ∙ ap hex_text (take_all c.loop-byte.byte-index c.args.bytes.now (omega arith))
