@@ -5,8 +5,9 @@ ghost use Rattle.keys.specs.Bytes.{are_bytes};
 use crate::key::WrongLength;
 
 /// The bytes, if there are N.
-pub(crate) fn exactly<const N: usize>(bytes: &[u8]) -> Option<[u8; N]>
-    ensures { MatchOption result (are_bytes N bytes.now ≡ false) (λ all. (are_bytes N bytes.now ≡ true) × (all ≡ bytes.now)) }
+// Lent and not copied: a copy of an odd number of bytes is put together by shifts before any of them is read.
+pub(crate) fn exactly<const N: usize>(bytes: &[u8]) -> Option<&[u8; N]>
+    ensures { MatchOption result (are_bytes N bytes.now ≡ false) (λ all. (are_bytes N bytes.now ≡ true) × (all.now ≡ bytes.now)) }
 {
     bytes.try_into().ok()
 }

@@ -47,10 +47,11 @@ fn climb<K: Key>(rows: &[u8], stride: usize, count: usize) -> bool
         let Some(key) = key_at::<K>(rows, i * stride) else {
             return false;
         };
-        if last >= key {
+        if last < key {
+            last = key;
+        } else {
             return false;
         }
-        last = key;
     }
     true
 }

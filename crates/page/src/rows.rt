@@ -1,7 +1,6 @@
 //! A node's entries, one after another in its block, gone through from the front.
 
-ghost use Rattle.std.specs.Prelude.{◌≡◌, ◌+◌, ◌*◌, ◌≤◌, length, drop};
-ghost use Rattle.std.specs.Iterator.Adapters.{take_count, take_source};
+ghost use Rattle.std.specs.Prelude.{◌≡◌, ◌+◌, ◌*◌, ◌≤◌, length, take, drop};
 ghost use Rattle.std.specs.Slice.Iter.{chunks_exact_rest, chunks_exact_size};
 ghost use Rattle.page.specs.Rows.{kid_at, kids_within, place_at, record_at};
 ghost use Rattle.store.specs.Bytes.{Bytes};
@@ -12,7 +11,6 @@ use crate::fields::number_at;
 use crate::node::ENTRIES;
 use keys::key::Key;
 use std::cmp::Ordering;
-use std::iter::Take;
 use std::marker::PhantomData;
 use std::slice::ChunksExact;
 
@@ -43,13 +41,14 @@ impl<'a, K: Key> Entries<'a, K> {
     }
 
     /// The bytes of each entry.
-    pub fn each(&self) -> Take<ChunksExact<'a, u8>>
-        ensures size { chunks_exact_size (take_source result) ≡ K.Key.kind.width + 4 }
-        ensures count { take_count result ≡ self.now.count }
-        ensures rest { chunks_exact_rest (take_source result) ≡ self.now.rows.now }
+    // They end where the last entry ends, so that what is left says when to stop: a count beside it would be tested at each entry too.
+    pub fn each(&self) -> ChunksExact<'a, u8>
+        ensures size { chunks_exact_size result ≡ K.Key.kind.width + 4 }
+        ensures count { length (chunks_exact_rest result) ≡ self.now.count * (K.Key.kind.width + 4) }
+        ensures rest { chunks_exact_rest result ≡ take (self.now.count * (K.Key.kind.width + 4)) self.now.rows.now }
     {
         let size = K::key_width() + NUMBER;
-        self.rows.chunks_exact(size).take(self.count)
+        self.rows[..self.count * size].chunks_exact(size)
     }
 
     /// Whether the numbers of the entries are blocks past the head.

@@ -46,7 +46,7 @@ impl Key for Lot {
     }
 
     fn read(bytes: &[u8]) -> Option<Lot> {
-        let [y0, y1, press, n0, n1, n2, n3] = exactly::<7>(bytes)?;
+        let [y0, y1, press, n0, n1, n2, n3] = *exactly::<7>(bytes)?;
         let year = u16::from_be_bytes([y0, y1]);
         let number = u32::from_be_bytes([n0, n1, n2, n3]);
         Some(Lot::new(year, press, number))

@@ -55,7 +55,7 @@ impl Key for Moment {
     }
 
     fn read(bytes: &[u8]) -> Option<Moment> {
-        let all = exactly(bytes)?;
+        let all = *exactly(bytes)?;
         Some(Moment::of_bits(u64::from_be_bytes(all)))
     }
 }

@@ -122,6 +122,6 @@ impl Key for Name {
     }
 
     fn read(bytes: &[u8]) -> Option<Name> {
-        Name::of(exactly(bytes)?)
+        Name::of(*exactly(bytes)?)
     }
 }

@@ -1,5 +1,5 @@
 use Rattle.std.proofs.Common.{rules}
-use Rattle.keys.proofs.Comparing.{ge_less}
+use Rattle.keys.proofs.Comparing.{lt_less}
 use Rattle.keys.proofs.RowSteps.{rise_none, rise_first, rise_more, rise_all}
 use Rattle.keys.proofs.rows.climb.Goals as goal
 
@@ -15,11 +15,11 @@ loop-i-init g c = search (rules, rise_first)
 pub returns-in_default-key_at : goal.returns-in_default-key_at
 returns-in_default-key_at g c = search (rules, rise_more)
 
-pub returns-then-ge : goal.returns-then-ge
-returns-then-ge g c = let h = ge_less g.K.Key.kind g.met.K.Ord.matches_partial_cmp g.met.K.Key.ordered c.loop-i.last c.in-Some-key_at.key in search (rules, rise_more)
+pub returns-else-lt : goal.returns-else-lt
+returns-else-lt g c = let h = lt_less g.K.Key.kind g.met.K.Ord.matches_partial_cmp g.met.K.Key.ordered c.loop-i.last c.in-Some-key_at.key in search (rules, rise_more)
 
 pub loop-i-preserved : goal.loop-i-preserved
-loop-i-preserved g c = let h = ge_less g.K.Key.kind g.met.K.Ord.matches_partial_cmp g.met.K.Key.ordered c.loop-i.last c.in-Some-key_at.key in search (rules, rise_more)
+loop-i-preserved g c = let h = lt_less g.K.Key.kind g.met.K.Ord.matches_partial_cmp g.met.K.Key.ordered c.loop-i.last c.in-Some-key_at.key in search (rules, rise_more)
 
 pub returns : goal.returns
 returns g c = search (rules, rise_all)

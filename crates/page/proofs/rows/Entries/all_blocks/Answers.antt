@@ -1,17 +1,24 @@
 use Rattle.std.proofs.Common.{rules}
-use Rattle.page.proofs.Cuts.{cut, cut_none, kids_end, kids_next}
+use Rattle.page.proofs.Cuts.{behind, cut, cut_none, uncut, kids_end, kids_next}
 use Rattle.page.proofs.rows.Entries.all_blocks.Goals as goal
+
+pub loop-entry-init : goal.loop-entry-init
+loop-entry-init g c =
+    let x = uncut g.K.Key.kind c.args.self.now.count c.args.self.now.rows.now c.each-entry-items.result c.each-entry-items.ensures.size c.each-entry-items.ensures.count c.each-entry-items.ensures.rest in
+    search rules
 
 pub returns-then-block-lt1 : goal.returns-then-block-lt1
 returns-then-block-lt1 g c =
-    let x = cut g.K.Key.kind c.loop-entry.entry-iterator c.next.new.self c.in-Some.entry c.loop-entry.invariant.ready c.in-Some.ensures.steps in
-    let e = kids_next g.K.Key.kind c.loop-entry.entry-iterator c.next.new.self c.in-Some.entry.now x c.args.count in
+    let end = behind g.K.Key.kind c.args.self.now.count c.args.self.now.rows.now in
+    let x = cut g.K.Key.kind end c.loop-entry.entry-iterator c.next.new.self c.in-Some.entry c.loop-entry.invariant.ready c.in-Some.ensures.steps in
+    let e = kids_next g.K.Key.kind end c.loop-entry.entry-iterator c.next.new.self c.in-Some.entry.now x c.args.count in
     search rules
 
 pub loop-entry-preserved : goal.loop-entry-preserved
 loop-entry-preserved g c =
-    let x = cut g.K.Key.kind c.loop-entry.entry-iterator c.next.new.self c.in-Some.entry c.loop-entry.invariant.ready c.in-Some.ensures.steps in
-    let e = kids_next g.K.Key.kind c.loop-entry.entry-iterator c.next.new.self c.in-Some.entry.now x c.args.count in
+    let end = behind g.K.Key.kind c.args.self.now.count c.args.self.now.rows.now in
+    let x = cut g.K.Key.kind end c.loop-entry.entry-iterator c.next.new.self c.in-Some.entry c.loop-entry.invariant.ready c.in-Some.ensures.steps in
+    let e = kids_next g.K.Key.kind end c.loop-entry.entry-iterator c.next.new.self c.in-Some.entry.now x c.args.count in
     search rules
 
 pub returns : goal.returns

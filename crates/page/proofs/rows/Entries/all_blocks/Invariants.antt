@@ -1,11 +1,11 @@
 use Rattle.std.proofs.Common.{◌≡◌}
-use Rattle.std.specs.Iterator.Adapters.{take_count}
 use Rattle.page.specs.Rows.{kids_within}
-use Rattle.page.proofs.Cuts.{Ready, left}
+use Rattle.page.proofs.Cuts.{Ready, behind, left, many}
 use Rattle.page.proofs.rows.Entries.all_blocks.Given as goal
 
 abbrev pub invariant-loop-entry : goal.invariant-loop-entry
 invariant-loop-entry g l =
     let κ = g.K.Key.kind in
+    let end = behind κ l.self.count l.self.rows.now in
     let s = l.entry-iterator in
-    record { same : kids_within κ l.count l.self.count l.self.rows.now ≡ kids_within κ l.count (take_count s) (left s); ready : Ready κ s }
+    record { same : kids_within κ l.count l.self.count l.self.rows.now ≡ kids_within κ l.count (many κ s) (left end s); ready : Ready κ s }

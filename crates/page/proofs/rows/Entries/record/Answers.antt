@@ -1,31 +1,40 @@
 use Rattle.std.proofs.Common.{rules}
-use Rattle.page.proofs.Cuts.{cut, cut_none, record_end, record_next}
+use Rattle.page.proofs.Cuts.{behind, cut, cut_none, uncut, record_end, record_next}
 use Rattle.page.proofs.rows.Entries.record.Goals as goal
+
+pub loop-entry-init : goal.loop-entry-init
+loop-entry-init g c =
+    let x = uncut g.K.Key.kind c.args.self.now.count c.args.self.now.rows.now c.each-entry-items.result c.each-entry-items.ensures.size c.each-entry-items.ensures.count c.each-entry-items.ensures.rest in
+    search rules
 
 pub returns-in_err-k : goal.returns-in_err-k
 returns-in_err-k g c =
-    let x = cut g.K.Key.kind c.loop-entry.entry-iterator c.next.new.self c.in-Some.entry c.loop-entry.invariant.ready c.in-Some.ensures.steps in
-    let e = record_next g.K.Key.kind c.loop-entry.entry-iterator c.next.new.self c.in-Some.entry.now x c.args.key.now in
+    let end = behind g.K.Key.kind c.args.self.now.count c.args.self.now.rows.now in
+    let x = cut g.K.Key.kind end c.loop-entry.entry-iterator c.next.new.self c.in-Some.entry c.loop-entry.invariant.ready c.in-Some.ensures.steps in
+    let e = record_next g.K.Key.kind end c.loop-entry.entry-iterator c.next.new.self c.in-Some.entry.now x c.args.key.now in
     search rules
 
 pub returns-in-Equal : goal.returns-in-Equal
 returns-in-Equal g c =
-    let x = cut g.K.Key.kind c.loop-entry.entry-iterator c.next.new.self c.in-Some.entry c.loop-entry.invariant.ready c.in-Some.ensures.steps in
-    let e = record_next g.K.Key.kind c.loop-entry.entry-iterator c.next.new.self c.in-Some.entry.now x c.args.key.now in
+    let end = behind g.K.Key.kind c.args.self.now.count c.args.self.now.rows.now in
+    let x = cut g.K.Key.kind end c.loop-entry.entry-iterator c.next.new.self c.in-Some.entry c.loop-entry.invariant.ready c.in-Some.ensures.steps in
+    let e = record_next g.K.Key.kind end c.loop-entry.entry-iterator c.next.new.self c.in-Some.entry.now x c.args.key.now in
     let o = g.met.K.Key.ordered c.in_ok-k.k c.args.key.now in
     search rules
 
 pub returns-in-Greater : goal.returns-in-Greater
 returns-in-Greater g c =
-    let x = cut g.K.Key.kind c.loop-entry.entry-iterator c.next.new.self c.in-Some.entry c.loop-entry.invariant.ready c.in-Some.ensures.steps in
-    let e = record_next g.K.Key.kind c.loop-entry.entry-iterator c.next.new.self c.in-Some.entry.now x c.args.key.now in
+    let end = behind g.K.Key.kind c.args.self.now.count c.args.self.now.rows.now in
+    let x = cut g.K.Key.kind end c.loop-entry.entry-iterator c.next.new.self c.in-Some.entry c.loop-entry.invariant.ready c.in-Some.ensures.steps in
+    let e = record_next g.K.Key.kind end c.loop-entry.entry-iterator c.next.new.self c.in-Some.entry.now x c.args.key.now in
     let o = g.met.K.Key.ordered c.in_ok-k.k c.args.key.now in
     search rules
 
 pub loop-entry-preserved : goal.loop-entry-preserved
 loop-entry-preserved g c =
-    let x = cut g.K.Key.kind c.loop-entry.entry-iterator c.next.new.self c.in-Some.entry c.loop-entry.invariant.ready c.in-Some.ensures.steps in
-    let e = record_next g.K.Key.kind c.loop-entry.entry-iterator c.next.new.self c.in-Some.entry.now x c.args.key.now in
+    let end = behind g.K.Key.kind c.args.self.now.count c.args.self.now.rows.now in
+    let x = cut g.K.Key.kind end c.loop-entry.entry-iterator c.next.new.self c.in-Some.entry c.loop-entry.invariant.ready c.in-Some.ensures.steps in
+    let e = record_next g.K.Key.kind end c.loop-entry.entry-iterator c.next.new.self c.in-Some.entry.now x c.args.key.now in
     let o = g.met.K.Key.ordered c.in_ok-k.k c.args.key.now in
     search rules
 

@@ -1,11 +1,11 @@
 use Rattle.std.proofs.Common.{◌≡◌}
-use Rattle.std.specs.Iterator.Adapters.{take_count}
 use Rattle.page.specs.Rows.{record_at}
-use Rattle.page.proofs.Cuts.{Ready, left}
+use Rattle.page.proofs.Cuts.{Ready, behind, left, many}
 use Rattle.page.proofs.rows.Entries.record.Given as goal
 
 abbrev pub invariant-loop-entry : goal.invariant-loop-entry
 invariant-loop-entry g l =
     let κ = g.K.Key.kind in
+    let end = behind κ l.self.count l.self.rows.now in
     let s = l.entry-iterator in
-    record { same : record_at κ l.key l.self.count l.self.rows.now ≡ record_at κ l.key (take_count s) (left s); ready : Ready κ s }
+    record { same : record_at κ l.key l.self.count l.self.rows.now ≡ record_at κ l.key (many κ s) (left end s); ready : Ready κ s }
