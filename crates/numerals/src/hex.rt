@@ -11,8 +11,16 @@ fn hex_value(digit: u8) -> Option<u8>
     ensures value { result ≡ hex_value digit }
     ensures bound { IfSome result (λ v. v < 16) }
 {
-    let value = char::from(digit).to_digit(16)?;
-    Some(value as u8)
+    // Each range in one test: `to_digit`, by way of a `char` and a `u32`, and patterns of ranges test more, a quarter dearer a digit.
+    if digit.is_ascii_digit() {
+        Some(digit - b'0')
+    } else if (b'A'..=b'F').contains(&digit) {
+        Some(digit - b'A' + 10)
+    } else if (b'a'..=b'f').contains(&digit) {
+        Some(digit - b'a' + 10)
+    } else {
+        None
+    }
 }
 
 /// The byte that two hexadecimal digits write.
