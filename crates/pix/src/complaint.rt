@@ -76,13 +76,13 @@ impl<T: Drop> From<AllocFailed<T>> for Failure {
 
 /// Prints the error line of a complaint about the command of these words.
 pub fn explain(rt: &HostRuntime, complaint: Complaint, words: &[&[u8]]) -> io::Result<()> {
-    print!(rt; "error {complaint}")?;
     if let Complaint::CannotOpen | Complaint::CannotSave = complaint
         && let Some(file) = words.get(1)
     {
-        rt.print(" ")?;
+        print!(rt; "error {complaint} ")?;
         // In the bytes in which it came: the name of a file need not be text.
         rt.stdout().write_all(file)?;
+        return rt.println("");
     }
-    rt.println("")
+    println!(rt; "error {complaint}")
 }
