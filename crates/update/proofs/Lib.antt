@@ -1,4 +1,4 @@
-mod Batches
-mod Frees
-mod Growing
-mod RowBytes
+pub mod Batches
+pub mod Frees
+pub mod Growing
+pub mod RowBytes

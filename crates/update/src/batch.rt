@@ -54,6 +54,14 @@ impl Batch {
         }
     }
 
+    /// How many blocks there are.
+    pub fn len(&self) -> usize
+        ensures value { result ≡ length self.now }
+        ensures few { length self.now ≤ 24 }
+    {
+        self.writes.len()
+    }
+
     /// One block more, to be written before those that are there.
     pub fn push(&mut self, block: u32, page: &[u8; LONGEST])
         requires { length self.old < 24 }

@@ -1,6 +1,6 @@
 //! Free blocks that were read and are not used yet.
 
-ghost use Rattle.std.specs.Prelude.{◌≡◌, ◌<◌, [], ◌∷◌, ◌++◌, length, drop, slice_index};
+ghost use Rattle.std.specs.Prelude.{◌≡◌, ◌<◌, ◌≤◌, [], ◌∷◌, ◌++◌, length, drop, slice_index};
 
 use arrayvec::ArrayVec;
 use std::marker::Model;
@@ -27,6 +27,14 @@ impl Spare {
         Spare {
             blocks: ArrayVec::new(),
         }
+    }
+
+    /// How many blocks are left.
+    pub fn len(&self) -> usize
+        ensures value { result ≡ length self.now }
+        ensures few { length self.now ≤ 12 }
+    {
+        self.blocks.len()
     }
 
     /// One block more, after the others.
