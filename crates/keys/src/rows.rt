@@ -47,6 +47,7 @@ fn climb<K: Key>(rows: &[u8], stride: usize, count: usize) -> bool
         let Some(key) = key_at::<K>(rows, i * stride) else {
             return false;
         };
+        // `<` and not `>=`, which tests both ends of a derived order at each key.
         if last < key {
             last = key;
         } else {

@@ -10,7 +10,6 @@ ghost use Rattle.tree.specs.Fields.{u8_at, u32_at};
 use crate::fields::number_at;
 use crate::node::ENTRIES;
 use keys::key::Key;
-use std::cmp::Ordering;
 use std::marker::PhantomData;
 use std::slice::ChunksExact;
 
@@ -102,11 +101,14 @@ impl<'a, K: Key> Entries<'a, K> {
     {
         for entry in self.each() {
             let k = entry_key::<K>(entry)?;
-            match k.cmp(key) {
-                Ordering::Less => {}
-                Ordering::Equal => return Some(entry_number::<K>(entry)),
-                Ordering::Greater => return None,
+            // Two tests and no `cmp`, which would put its three answers together at each entry.
+            if k < *key {
+                continue;
             }
+            if *key < k {
+                return None;
+            }
+            return Some(entry_number::<K>(entry));
         }
         None
     }

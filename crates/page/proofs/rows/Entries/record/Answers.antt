@@ -1,4 +1,5 @@
 use Rattle.std.proofs.Common.{rules}
+use Rattle.keys.proofs.Comparing.{lt_less}
 use Rattle.page.proofs.Cuts.{behind, cut, cut_none, uncut, record_end, record_next}
 use Rattle.page.proofs.rows.Entries.record.Goals as goal
 
@@ -14,28 +15,30 @@ returns-in_err-k g c =
     let e = record_next g.K.Key.kind end c.loop-entry.entry-iterator c.next.new.self c.in-Some.entry.now x c.args.key.now in
     search rules
 
-pub returns-in-Equal : goal.returns-in-Equal
-returns-in-Equal g c =
-    let end = behind g.K.Key.kind c.args.self.now.count c.args.self.now.rows.now in
-    let x = cut g.K.Key.kind end c.loop-entry.entry-iterator c.next.new.self c.in-Some.entry c.loop-entry.invariant.ready c.in-Some.ensures.steps in
-    let e = record_next g.K.Key.kind end c.loop-entry.entry-iterator c.next.new.self c.in-Some.entry.now x c.args.key.now in
-    let o = g.met.K.Key.ordered c.in_ok-k.k c.args.key.now in
-    search rules
-
-pub returns-in-Greater : goal.returns-in-Greater
-returns-in-Greater g c =
-    let end = behind g.K.Key.kind c.args.self.now.count c.args.self.now.rows.now in
-    let x = cut g.K.Key.kind end c.loop-entry.entry-iterator c.next.new.self c.in-Some.entry c.loop-entry.invariant.ready c.in-Some.ensures.steps in
-    let e = record_next g.K.Key.kind end c.loop-entry.entry-iterator c.next.new.self c.in-Some.entry.now x c.args.key.now in
-    let o = g.met.K.Key.ordered c.in_ok-k.k c.args.key.now in
-    search rules
-
 pub loop-entry-preserved : goal.loop-entry-preserved
 loop-entry-preserved g c =
     let end = behind g.K.Key.kind c.args.self.now.count c.args.self.now.rows.now in
     let x = cut g.K.Key.kind end c.loop-entry.entry-iterator c.next.new.self c.in-Some.entry c.loop-entry.invariant.ready c.in-Some.ensures.steps in
     let e = record_next g.K.Key.kind end c.loop-entry.entry-iterator c.next.new.self c.in-Some.entry.now x c.args.key.now in
-    let o = g.met.K.Key.ordered c.in_ok-k.k c.args.key.now in
+    let a = lt_less g.K.Key.kind g.met.K.Ord.matches_partial_cmp g.met.K.Key.ordered c.in_ok-k.k c.args.key.now in
+    search rules
+
+pub returns-then-lt-2 : goal.returns-then-lt-2
+returns-then-lt-2 g c =
+    let end = behind g.K.Key.kind c.args.self.now.count c.args.self.now.rows.now in
+    let x = cut g.K.Key.kind end c.loop-entry.entry-iterator c.next.new.self c.in-Some.entry c.loop-entry.invariant.ready c.in-Some.ensures.steps in
+    let e = record_next g.K.Key.kind end c.loop-entry.entry-iterator c.next.new.self c.in-Some.entry.now x c.args.key.now in
+    let a = lt_less g.K.Key.kind g.met.K.Ord.matches_partial_cmp g.met.K.Key.ordered c.in_ok-k.k c.args.key.now in
+    let b = lt_less g.K.Key.kind g.met.K.Ord.matches_partial_cmp g.met.K.Key.ordered c.args.key.now c.in_ok-k.k in
+    search rules
+
+pub returns-in-loop-entry : goal.returns-in-loop-entry
+returns-in-loop-entry g c =
+    let end = behind g.K.Key.kind c.args.self.now.count c.args.self.now.rows.now in
+    let x = cut g.K.Key.kind end c.loop-entry.entry-iterator c.next.new.self c.in-Some.entry c.loop-entry.invariant.ready c.in-Some.ensures.steps in
+    let e = record_next g.K.Key.kind end c.loop-entry.entry-iterator c.next.new.self c.in-Some.entry.now x c.args.key.now in
+    let a = lt_less g.K.Key.kind g.met.K.Ord.matches_partial_cmp g.met.K.Key.ordered c.in_ok-k.k c.args.key.now in
+    let b = lt_less g.K.Key.kind g.met.K.Ord.matches_partial_cmp g.met.K.Key.ordered c.args.key.now c.in_ok-k.k in
     search rules
 
 pub returns : goal.returns
