@@ -11,7 +11,7 @@ fn hex_value(digit: u8) -> Option<u8>
     ensures value { result ≡ hex_value digit }
     ensures bound { IfSome result (λ v. v < 16) }
 {
-    // Each range in one test: `to_digit`, by way of a `char` and a `u32`, and patterns of ranges test more, a quarter dearer a digit.
+    // Each range in one test: `to_digit`, by way of a `char` and a `u32`, and patterns of ranges test each end apart, a third dearer a digit.
     if digit.is_ascii_digit() {
         Some(digit - b'0')
     } else if (b'A'..=b'F').contains(&digit) {
