@@ -6,3 +6,5 @@ pub mod GatherSteps
 pub mod Gathers
 pub mod Places
 pub mod Cuts
+pub mod Chunks
+pub mod GatherChunks

@@ -27,7 +27,7 @@ fn gather_rows<K: Key>(
 {
     let size = K::key_width() + NUMBER;
     let mut number = taken;
-    for entry in node.entries().each() {
+    for entry in node.entries().each_to_last() {
         let Some(k) = entry_key::<K>(entry) else {
             return (number, None);
         };

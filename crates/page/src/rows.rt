@@ -1,6 +1,7 @@
 //! A node's entries, one after another in its block, gone through from the front.
 
 ghost use Rattle.std.specs.Prelude.{◌≡◌, ◌+◌, ◌*◌, ◌≤◌, length, take, drop};
+ghost use Rattle.std.specs.Iterator.Adapters.{take_count, take_source};
 ghost use Rattle.std.specs.Slice.Iter.{chunks_exact_rest, chunks_exact_size};
 ghost use Rattle.page.specs.Rows.{kid_at, kids_within, place_at, record_at};
 ghost use Rattle.store.specs.Bytes.{Bytes};
@@ -10,6 +11,7 @@ ghost use Rattle.tree.specs.Fields.{u8_at, u32_at};
 use crate::fields::number_at;
 use crate::node::ENTRIES;
 use keys::key::Key;
+use std::iter::Take;
 use std::marker::PhantomData;
 use std::slice::ChunksExact;
 
@@ -39,9 +41,19 @@ impl<'a, K: Key> Entries<'a, K> {
         }
     }
 
-    /// The bytes of each entry.
-    // They end where the last entry ends, so that what is left says when to stop: a count beside it would be tested at each entry too.
-    pub fn each(&self) -> ChunksExact<'a, u8>
+    /// The bytes of each entry, cut from all the bytes that were lent.
+    pub fn each(&self) -> Take<ChunksExact<'a, u8>>
+        ensures size { chunks_exact_size (take_source result) ≡ K.Key.kind.width + 4 }
+        ensures count { take_count result ≡ self.now.count }
+        ensures rest { chunks_exact_rest (take_source result) ≡ self.now.rows.now }
+    {
+        let size = K::key_width() + NUMBER;
+        self.rows.chunks_exact(size).take(self.count)
+    }
+
+    /// The bytes of each entry, cut from bytes that end with the last.
+    // What is left says when to stop: the count that `each` keeps beside it would be tested at each entry too.
+    pub fn each_to_last(&self) -> ChunksExact<'a, u8>
         ensures size { chunks_exact_size result ≡ K.Key.kind.width + 4 }
         ensures count { length (chunks_exact_rest result) ≡ self.now.count * (K.Key.kind.width + 4) }
         ensures rest { chunks_exact_rest result ≡ take (self.now.count * (K.Key.kind.width + 4)) self.now.rows.now }
@@ -54,7 +66,7 @@ impl<'a, K: Key> Entries<'a, K> {
     pub fn all_blocks(&self, count: u32) -> bool
         ensures { result ≡ kids_within K.Key.kind count self.now.count self.now.rows.now }
     {
-        for entry in self.each() {
+        for entry in self.each_to_last() {
             let block = entry_number::<K>(entry);
             if block < 1 || block >= count {
                 return false;
@@ -68,7 +80,7 @@ impl<'a, K: Key> Entries<'a, K> {
         ensures { result ≡ kid_at K.Key.kind key.now first self.now.count self.now.rows.now }
     {
         let mut child = first;
-        for entry in self.each() {
+        for entry in self.each_to_last() {
             let Some(k) = entry_key::<K>(entry) else {
                 return child;
             };
@@ -84,7 +96,7 @@ impl<'a, K: Key> Entries<'a, K> {
     pub fn place(&self, key: &K) -> usize
         ensures { result ≡ place_at K.Key.kind key.now 0 self.now.count self.now.rows.now }
     {
-        for (i, entry) in self.each().enumerate() {
+        for (i, entry) in self.each_to_last().enumerate() {
             let Some(k) = entry_key::<K>(entry) else {
                 return i;
             };
@@ -99,7 +111,7 @@ impl<'a, K: Key> Entries<'a, K> {
     pub fn record(&self, key: &K) -> Option<u32>
         ensures { result ≡ record_at K.Key.kind key.now self.now.count self.now.rows.now }
     {
-        for entry in self.each() {
+        for entry in self.each_to_last() {
             let k = entry_key::<K>(entry)?;
             // Two tests and no `cmp`, which would put its three answers together at each entry.
             if k < *key {

@@ -1,14 +1,15 @@
 use Rattle.std.proofs.Common.{drop, length, sym, ◌∙◌, rules}
 use Rattle.keys.proofs.Comparing.{lt_less}
 use Rattle.tree.specs.Fields.{u8_at}
-use Rattle.page.proofs.Cuts.{behind, cut, cut_none, uncut}
-use Rattle.page.proofs.GatherSteps.{gather_end, gather_full, gather_next, gather_one, one_fits}
+use Rattle.page.proofs.Chunks.{behind, cut, cut_none, uncut}
+use Rattle.page.proofs.GatherChunks.{gather_full, gather_next, gather_one}
+use Rattle.page.proofs.GatherSteps.{gather_end, one_fits}
 use Rattle.page.proofs.gather.gather_rows.Goals as goal
 
 pub loop-entry-init : goal.loop-entry-init
 loop-entry-init g c =
-    let x = uncut g.K.Key.kind (u8_at 1 c.args.node.now.page.now) (drop 8 c.args.node.now.page.now) c.each-entry-items.result c.each-entry-items.ensures.size
-    (rw c.entries.ensures.count at c.each-entry-items.ensures.count) (rw (c.entries.ensures.count, c.entries.ensures.rows) at c.each-entry-items.ensures.rest) in
+    let x = uncut g.K.Key.kind (u8_at 1 c.args.node.now.page.now) (drop 8 c.args.node.now.page.now) c.each_to_last-entry-items.result c.each_to_last-entry-items.ensures.size
+    (rw c.entries.ensures.count at c.each_to_last-entry-items.ensures.count) (rw (c.entries.ensures.count, c.entries.ensures.rows) at c.each_to_last-entry-items.ensures.rest) in
     search rules
 
 pub returns-in_default : goal.returns-in_default

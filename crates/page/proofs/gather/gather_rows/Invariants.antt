@@ -1,7 +1,7 @@
 use Rattle.std.proofs.Common.{◌≡◌, ◌+◌, ◌*◌, ◌≤◌, length, drop}
 use Rattle.page.specs.Gathers.{gather_on}
 use Rattle.tree.specs.Fields.{u8_at}
-use Rattle.page.proofs.Cuts.{Ready, behind, left, many}
+use Rattle.page.proofs.Chunks.{Ready, behind, left, many}
 use Rattle.page.proofs.gather.gather_rows.Given as goal
 
 abbrev pub invariant-loop-entry : goal.invariant-loop-entry

@@ -1,11 +1,12 @@
 use Rattle.std.proofs.Common.{rules}
 use Rattle.keys.proofs.Comparing.{lt_less}
-use Rattle.page.proofs.Cuts.{behind, cut, cut_none, uncut, kid_end, kid_next}
+use Rattle.page.proofs.Chunks.{behind, cut, cut_none, uncut, kid_next}
+use Rattle.page.proofs.Cuts.{kid_end}
 use Rattle.page.proofs.rows.Entries.child.Goals as goal
 
 pub loop-entry-init : goal.loop-entry-init
 loop-entry-init g c =
-    let x = uncut g.K.Key.kind c.args.self.now.count c.args.self.now.rows.now c.each-entry-items.result c.each-entry-items.ensures.size c.each-entry-items.ensures.count c.each-entry-items.ensures.rest in
+    let x = uncut g.K.Key.kind c.args.self.now.count c.args.self.now.rows.now c.each_to_last-entry-items.result c.each_to_last-entry-items.ensures.size c.each_to_last-entry-items.ensures.count c.each_to_last-entry-items.ensures.rest in
     search rules
 
 pub returns-in_default : goal.returns-in_default

@@ -1,12 +1,13 @@
 use Rattle.std.proofs.Common.{rules}
 use Rattle.std.specs.Iterator.Adapters.{enumerate_source}
 use Rattle.keys.proofs.Comparing.{lt_less}
-use Rattle.page.proofs.Cuts.{behind, cut, cut_none, uncut, place_end, place_next}
+use Rattle.page.proofs.Chunks.{behind, cut, cut_none, uncut, place_next}
+use Rattle.page.proofs.Cuts.{place_end}
 use Rattle.page.proofs.rows.Entries.place.Goals as goal
 
 pub loop-i-init : goal.loop-i-init
 loop-i-init g c =
-    let x = uncut g.K.Key.kind c.args.self.now.count c.args.self.now.rows.now c.each.result c.each.ensures.size c.each.ensures.count c.each.ensures.rest in
+    let x = uncut g.K.Key.kind c.args.self.now.count c.args.self.now.rows.now c.each_to_last.result c.each_to_last.ensures.size c.each_to_last.ensures.count c.each_to_last.ensures.rest in
     search rules
 
 pub returns-in_default : goal.returns-in_default

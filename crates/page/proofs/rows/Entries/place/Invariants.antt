@@ -1,7 +1,7 @@
 use Rattle.std.proofs.Common.{◌≡◌, ◌+◌}
 use Rattle.std.specs.Iterator.Adapters.{enumerate_count, enumerate_source}
 use Rattle.page.specs.Rows.{place_at}
-use Rattle.page.proofs.Cuts.{Ready, behind, left, many}
+use Rattle.page.proofs.Chunks.{Ready, behind, left, many}
 use Rattle.page.proofs.rows.Entries.place.Given as goal
 
 abbrev pub invariant-loop-i : goal.invariant-loop-i

@@ -1,6 +1,6 @@
 use Rattle.std.proofs.Common.{◌≡◌}
 use Rattle.page.specs.Rows.{record_at}
-use Rattle.page.proofs.Cuts.{Ready, behind, left, many}
+use Rattle.page.proofs.Chunks.{Ready, behind, left, many}
 use Rattle.page.proofs.rows.Entries.record.Given as goal
 
 abbrev pub invariant-loop-entry : goal.invariant-loop-entry
